@@ -1,0 +1,120 @@
+-- Laws of `frameBit`, `frame`, `value` and `bytesOf`: a frame is its bits.
+-- Assumes nothing.
+use mathlib.Core.Path.{_≡_, refl, sym, ap, _∙_}
+use mathlib.Core.Logic.{⊎-elim}
+use mathlib.Core.List.{List, [], _∷_, _++_}
+use Prim.Native.Nat.{ℕ, zero, suc, _+_, _-_, _*_, _/_, _%_, _^_, _≤_, _<_}
+use native.Mathlib.Nat.{le-of-suc-le-suc, not-suc-le-zero}
+use native.Mathlib.Omega.{arith}
+use lib.ListN.{length, getD, take, drop, drop-of-length-le}
+use Rattle.bits.specs.Bits.{bit, number, frameBit, frame}
+use Rattle.bits.specs.Slots.{value, bytesOf}
+use Rattle.bits.proofs.Basics.{lt-or-le}
+use Rattle.bits.proofs.Numbers.{bit-lt, bit-of-zero, bit-low, bit-high, bit-mod, bit-div, number-ext, number-bit, number-lt, number-bits}
+
+-- every element is a byte
+abbrev pub Bytes : List ℕ → Type 0
+Bytes f = (i : ℕ) → getD f i 0 < 256
+
+pub frameBit-lt : (f : List ℕ) (p : ℕ) → frameBit f p < 2
+unfolding frameBit
+frameBit-lt f p = bit-lt _ _
+
+pub frameBit-head : (b : ℕ) (f : List ℕ) (p : ℕ) → p < 8 → frameBit (b ∷ f) p ≡ bit b p
+unfolding frameBit
+frameBit-head b f p h =
+    let d : p / 8 ≡ 0 = omega arith in
+    let m : p % 8 ≡ p = omega arith in
+    rw (d, m)
+
+pub frameBit-tail : (b : ℕ) (f : List ℕ) (p : ℕ) → frameBit (b ∷ f) (8 + p) ≡ frameBit f p
+unfolding frameBit
+frameBit-tail b f p =
+    let d : (8 + p) / 8 ≡ suc (p / 8) = omega arith in
+    let m : (8 + p) % 8 ≡ p % 8 = omega arith in
+    rw (d, m)
+
+-- a place is in the first byte or in the rest
+pub by-byte {ℓ} : (P : ℕ → Type ℓ) → ((p : ℕ) → p < 8 → P p) → ((p : ℕ) → P (8 + p)) → (p : ℕ) → P p
+by-byte P first rest p =
+    ⊎-elim (first p)
+    (λ h. let e : 8 + (p - 8) ≡ p = omega arith in rw e at (rest (p - 8)))
+    (lt-or-le p 8)
+
+pub frame-length : (L : ℕ) (b : ℕ → ℕ) → length (frame L b) ≡ L
+unfolding frame
+frame-length zero b = refl
+frame-length (suc L) b = ap suc (frame-length L (λ k. b (8 + k)))
+
+pub frame-ext : (L : ℕ) (b c : ℕ → ℕ) → ((p : ℕ) → p < 8 * L → b p ≡ c p) → frame L b ≡ frame L c
+unfolding frame
+frame-ext zero b c e = refl
+frame-ext (suc L) b c e =
+    cc (
+      number-ext 8 b c (λ p h. e p (omega arith)),
+      frame-ext L (λ k. b (8 + k)) (λ k. c (8 + k)) (λ p h. e (8 + p) (omega arith)),
+    )
+
+pub frame-bit : (L : ℕ) (b : ℕ → ℕ) → ((i : ℕ) → b i < 2) → (p : ℕ) → p < 8 * L → frameBit (frame L b) p ≡ b p
+unfolding frame
+frame-bit zero b two p h = absurd (not-suc-le-zero {n = p} (omega arith))
+frame-bit (suc L) b two p h =
+    by-byte (λ p. p < 8 * suc L → frameBit (number 8 b ∷ frame L (λ k. b (8 + k))) p ≡ b p)
+    (λ p h _. frameBit-head _ _ p h ∙ number-bit b two 8 p h)
+    (λ p h. frameBit-tail _ _ p ∙ frame-bit L (λ k. b (8 + k)) (λ k. two (8 + k)) p (omega arith))
+    p
+    h
+
+pub frame-bytes : (L : ℕ) (b : ℕ → ℕ) → ((i : ℕ) → b i < 2) → Bytes (frame L b)
+unfolding frame
+frame-bytes zero b two i = omega arith
+frame-bytes (suc L) b two zero = number-lt b two 8
+frame-bytes (suc L) b two (suc i) = frame-bytes L (λ k. b (8 + k)) (λ k. two (8 + k)) i
+
+pub frame-take : (L M : ℕ) (b : ℕ → ℕ) → L ≤ M → take L (frame M b) ≡ frame L b
+unfolding frame
+frame-take zero M b h = refl
+frame-take (suc L) zero b h = absurd (not-suc-le-zero h)
+frame-take (suc L) (suc M) b h = ap (λ (f : List ℕ). number 8 b ∷ f) (frame-take L M (λ k. b (8 + k)) (le-of-suc-le-suc h))
+
+-- a frame of bytes is made of its own bits
+pub frame-same : (f : List ℕ) → Bytes f → frame (length f) (frameBit f) ≡ f
+unfolding frame
+frame-same [] bs = refl
+frame-same (b ∷ f) bs =
+    let low : b % 256 ≡ b = omega (arith, bs 0) in
+    cc (
+      number-ext 8 (frameBit (b ∷ f)) (bit b) (frameBit-head b f),
+      number-bits 8 b,
+      frame-ext (length f) (λ k. frameBit (b ∷ f) (8 + k)) (frameBit f) (λ p h. frameBit-tail b f p),
+      frame-same f (λ i. bs (suc i)),
+    )
+
+-- a number and its bytes have the same bits
+pub value-bit : (f : List ℕ) → Bytes f → (p : ℕ) → bit (value f) p ≡ frameBit f p
+unfolding value
+value-bit [] bs p = bit-of-zero p ∙ sym (unfold frameBit in bit-of-zero (p % 8))
+value-bit (b ∷ f) bs p =
+    by-byte (λ p. bit (value (b ∷ f)) p ≡ frameBit (b ∷ f) p)
+    (λ p h. bit-low 8 b (value f) p h ∙ sym (frameBit-head b f p h))
+    (λ p. bit-high 8 b (value f) p (bs 0) ∙ value-bit f (λ i. bs (suc i)) p ∙ sym (frameBit-tail b f p))
+    p
+
+pub bytesOf-frame : (k w : ℕ) → bytesOf k w ≡ frame k (bit w)
+unfolding bytesOf frame
+bytesOf-frame zero w = refl
+bytesOf-frame (suc k) w =
+    cc
+    (number-bits 8 w, bytesOf-frame k (w / 256), frame-ext k (bit (w / 256)) (λ i. bit w (8 + i)) (λ p h. bit-div w 8 p))
+
+-- a number is its first byte and 256 times the rest
+pub value-step : (f : List ℕ) (k : ℕ) → value (drop k f) ≡ getD f k 0 + 256 * value (drop (suc k) f)
+unfolding value
+value-step [] zero = refl
+value-step [] (suc k) = refl
+value-step (b ∷ f) zero = refl
+value-step (b ∷ f) (suc k) = value-step f k
+
+pub value-past : (f : List ℕ) (k : ℕ) → length f ≤ k → value (drop k f) ≡ 0
+unfolding value
+value-past f k h = ap value (drop-of-length-le f h)

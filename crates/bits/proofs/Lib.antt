@@ -1,0 +1,6 @@
+pub mod Basics
+pub mod Numbers
+pub mod Frames
+pub mod Places
+pub mod Slots
+pub mod Laws

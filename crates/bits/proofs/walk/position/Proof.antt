@@ -1,0 +1,54 @@
+-- `bits::walk::position` meets its contract: the constant list is `position Big` at each of its 64 entries, by one computed equation.
+-- Assumes nothing.
+use mathlib.Core.Path.{_≡_, refl, sym, ap, _∙_}
+use mathlib.Core.List.{List, [], _∷_}
+use Prim.Native.Nat.{ℕ, _<_}
+use native.Mathlib.Omega.{arith}
+use borrow.Author.Needs.{needs}
+use lib.ListN.{getD}
+use Rattle.bits.specs.declared.Order.the-variants.{Big}
+use Rattle.bits.specs.Slots.{position}
+use Rattle.bits.proofs.Basics.{tabulate, tabulate-at}
+use Rattle.bits.proofs.Places.{position-lt}
+use Rattle.bits.proofs.walk.position.Statement.{statement}
+use Rattle.bits.proofs.walk.position.Tie as tie
+
+abbrev bigWalk : List ℕ
+bigWalk =
+    56 ∷ 57 ∷ 58 ∷ 59 ∷ 60 ∷ 61 ∷ 62 ∷ 63
+    ∷ 48 ∷ 49 ∷ 50 ∷ 51 ∷ 52 ∷ 53 ∷ 54 ∷ 55
+    ∷ 40 ∷ 41 ∷ 42 ∷ 43 ∷ 44 ∷ 45 ∷ 46 ∷ 47
+    ∷ 32 ∷ 33 ∷ 34 ∷ 35 ∷ 36 ∷ 37 ∷ 38 ∷ 39
+    ∷ 24 ∷ 25 ∷ 26 ∷ 27 ∷ 28 ∷ 29 ∷ 30 ∷ 31
+    ∷ 16 ∷ 17 ∷ 18 ∷ 19 ∷ 20 ∷ 21 ∷ 22 ∷ 23
+    ∷ 8 ∷ 9 ∷ 10 ∷ 11 ∷ 12 ∷ 13 ∷ 14 ∷ 15
+    ∷ 0 ∷ 1 ∷ 2 ∷ 3 ∷ 4 ∷ 5 ∷ 6 ∷ 7 ∷ []
+
+rule : bigWalk ≡ tabulate 64 (position Big)
+unfolding position
+rule = refl
+
+entry : (p : ℕ) → p < 64 → getD bigWalk p 0 ≡ position Big p
+entry p h = ap (λ (l : List ℕ). getD l p 0) rule ∙ tabulate-at 64 (position Big) p h
+
+array-read-met : tie.Need-array-read-met
+array-read-met c = search needs
+
+cast-met : tie.Need-cast-met
+cast-met c = omega (arith, entry (c .args .place) (c .pre), position-lt Big (c .args .place) (c .pre))
+
+enum-told : tie.Need-enum-told
+enum-told c = search needs
+
+enum-told-2 : tie.Need-enum-told-2
+enum-told-2 c = search needs
+
+returns : tie.Need-returns
+unfolding position
+returns c = cc
+
+returns-2 : tie.Need-returns-2
+returns-2 c = cc (entry (c .before .before .args .place) (c .before .before .pre))
+
+pub position-spec : {M : Type 1} → statement M
+position-spec = tie.close (tie.spec array-read-met cast-met enum-told enum-told-2 returns returns-2)

@@ -1,0 +1,63 @@
+-- `bits::word::with_field` meets its contract. The laws of `Slots` bound what is computed on the way.
+-- Assumes nothing.
+use native.Mathlib.Omega.{arith}
+use borrow.Author.Needs.{needs}
+use lib.Pow.{pow-pos}
+use Rattle.bits.specs.Slots.{field, withField}
+use Rattle.bits.proofs.Slots.{old-field-le, new-field-lt, with-field-lt}
+use Rattle.bits.proofs.word.with_field.Statement.{statement}
+use Rattle.bits.proofs.word.with_field.Tie as tie
+
+power-of-two-requires : tie.Need-power-of-two-requires
+power-of-two-requires c κs = search needs
+
+power-of-two-requires-2 : tie.Need-power-of-two-requires-2
+power-of-two-requires-2 c κs = search needs
+
+div-old : tie.Need-div-old
+div-old c = rw (c .before .power-of-two .ensures) (pow-pos _)
+
+rem-old : tie.Need-rem-old
+rem-old c = rw (c .power-of-two2 .ensures) (pow-pos _)
+
+mul-old : tie.Need-mul-old
+mul-old c =
+    let le = old-field-le (c .before .before .args .word) (c .before .before .args .at) (c .before .before .args .bits) in
+    rw (c .before .power-of-two .ensures, c .power-of-two2 .ensures) (omega arith)
+
+rem-new : tie.Need-rem-new
+rem-new c = rw (c .power-of-two2 .ensures) (pow-pos _)
+
+mul-new : tie.Need-mul-new
+mul-new c =
+    rw (c .before .power-of-two .ensures, c .power-of-two2 .ensures)
+    (record { fits = new-field-lt _ _ _ (c .before .before .pre .0) })
+
+sub-result : tie.Need-sub-result
+sub-result c = rw (c .before .power-of-two .ensures, c .power-of-two2 .ensures) (old-field-le _ _ _)
+
+add-result : tie.Need-add-result
+unfolding field withField
+add-result c =
+    let a = c .before .before .args in
+    rw (c .before .power-of-two .ensures, c .power-of-two2 .ensures)
+    (record { fits = with-field-lt (a .word) (a .at) (a .bits) (a .x) (c .before .before .pre .0) (omega arith) })
+
+returns : tie.Need-returns
+unfolding field withField
+returns c = rw (c .before .power-of-two .ensures, c .power-of-two2 .ensures)
+
+pub with-field-spec : {M : Type 1} → statement M
+with-field-spec =
+    tie.close
+    (tie.spec
+    power-of-two-requires
+    power-of-two-requires-2
+    div-old
+    rem-old
+    mul-old
+    rem-new
+    mul-new
+    sub-result
+    add-result
+    returns)

@@ -1,0 +1,63 @@
+-- Document 01, "Bits", in its order: bit numbers, places, room, packing, unpacking.
+-- Assumes nothing.
+use mathlib.Core.Bool.{Bool, true, false}
+use mathlib.Core.List.{List, [], _∷_}
+use Prim.Native.Nat.{ℕ, zero, suc, _+_, _-_, _*_, _/_, _%_, _^_}
+use lib.Dec.{leb, ltb, eqb}
+use lib.ListN.{length, getD}
+use Rattle.bits.specs.declared.Order.{Order}
+use Rattle.bits.specs.declared.Order.the-variants.{Little, Big}
+
+abbrev pub pick {ℓ} : {A : Type ℓ} → Bool → A → A → A
+pick true a b = a
+pick false a b = b
+
+abbrev pub both : Bool → Bool → Bool
+both true b = b
+both false b = false
+
+-- bit k of a number
+unfoldable pub bit : ℕ → ℕ → ℕ
+bit n k = n / 2 ^ k % 2
+
+-- I-PDU bit k is bit k mod 8 of byte k div 8
+unfoldable pub frameBit : List ℕ → ℕ → ℕ
+frameBit f k = bit (getD f (k / 8) 0) (k % 8)
+
+-- the bit after p. Little: the next one. Big: the next one up to the byte's end, then on from bit 0 of the byte before
+abbrev pub after : Order → ℕ → ℕ
+after Little p = p + 1
+after Big p = pick (eqb (p % 8) 7) (8 * (p / 8 - 1)) (p + 1)
+
+-- where message bit i goes: message bit 0 goes to the start bit
+unfoldable pub place : Order → ℕ → ℕ → ℕ
+place o start zero = start
+place o start (suc i) = after o (place o start i)
+
+-- a message of this many bits lies inside an I-PDU of L bytes
+unfoldable pub room : Order → ℕ → ℕ → ℕ → Bool
+room Little n size L = leb (n + size) (8 * L)
+room Big n size L = both (ltb n (8 * L)) (leb size (8 * (n / 8 + 1) - n % 8))
+
+-- the number whose bit i is b i, for each i below k; its bits from k on are 0
+unfoldable pub number : ℕ → (ℕ → ℕ) → ℕ
+number zero b = 0
+number (suc k) b = b 0 + 2 * number k (λ i. b (suc i))
+
+-- the frame of L bytes whose bit k is b k
+unfoldable pub frame : ℕ → (ℕ → ℕ) → List ℕ
+frame zero b = []
+frame (suc L) b = number 8 b ∷ frame L (λ k. b (8 + k))
+
+-- bit p of frame f once message bits 0 to k - 1 of value v have gone to their places
+unfoldable pub written : Order → ℕ → ℕ → List ℕ → ℕ → ℕ → ℕ
+written o start v f zero p = frameBit f p
+written o start v f (suc i) p = pick (eqb (place o start i) p) (bit v i) (written o start v f i p)
+
+-- packing drops high bits: only the first `size` bits of v are written
+unfoldable pub packed : Order → ℕ → ℕ → ℕ → List ℕ → List ℕ
+packed o start size v f = frame (length f) (written o start v f size)
+
+-- unpacking fills high bits with 0
+unfoldable pub unpacked : Order → ℕ → ℕ → List ℕ → ℕ
+unpacked o start size f = number size (λ i. frameBit f (place o start i))

@@ -1,0 +1,33 @@
+-- What `pack` and `unpack` answer for any frame, and what they leave in it: frames of 1 to 8 bytes, messages of 1 to 32 bits.
+-- Assumes nothing.
+use mathlib.Core.Bool.{Bool, true}
+use mathlib.Core.Path.{_≡_}
+use mathlib.Core.List.{List}
+use Prim.Native.Nat.{ℕ, _≤_, _<_}
+use lib.Dec.{leb, ltb}
+use lib.ListN.{length}
+use Rattle.bits.specs.declared.Order.{Order}
+use Rattle.bits.specs.declared.Packing.{Packing}
+use Rattle.bits.specs.declared.Unpacking.{Unpacking}
+use Rattle.bits.specs.Bits.{pick, both, room, packed, unpacked}
+
+-- the place of a message is one of those that document 01 speaks of
+unfoldable pub isPlace : Order → ℕ → ℕ → ℕ → Bool
+isPlace o start size L =
+    both (both (ltb 0 L) (leb L 8)) (both (both (ltb 0 size) (leb size 32)) (room o start size L))
+
+-- the same in a slot of 8 bytes, as the facts that `pack_slot` asks of its caller
+pub record InSlot (o : Order) (start size : ℕ) : Type 0 where
+  pub some : 0 < size
+  pub most : size ≤ 32
+  pub inside : room o start size 8 ≡ true
+
+abbrev pub packing : Order → ℕ → ℕ → ℕ → Packing
+packing o start size L = pick (isPlace o start size L) Packing.Packed Packing.Refused
+
+abbrev pub frameAfter : Order → ℕ → ℕ → ℕ → List ℕ → List ℕ
+frameAfter o start size v f = pick (isPlace o start size (length f)) (packed o start size v f) f
+
+abbrev pub unpacking : Order → ℕ → ℕ → List ℕ → Unpacking
+unpacking o start size f =
+    pick (isPlace o start size (length f)) (Unpacking.Value (unpacked o start size f)) Unpacking.Refused

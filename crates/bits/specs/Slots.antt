@@ -1,0 +1,38 @@
+-- A slot of 8 bytes as one number, and fields of bits in a number: what the code of `walk` and `word` computes.
+-- Nothing here is a rule of document 01; proofs/Laws.antt shows that it meets them. Assumes nothing.
+use mathlib.Core.List.{List, [], _∷_, reverse}
+use Prim.Native.Nat.{ℕ, zero, suc, _+_, _-_, _*_, _/_, _%_, _^_}
+use Rattle.bits.specs.declared.Order.{Order}
+use Rattle.bits.specs.declared.Order.the-variants.{Little, Big}
+
+-- how far along an order's walk through a slot bit p stands; also, since this is its own inverse, the bit that stands there
+unfoldable pub position : Order → ℕ → ℕ
+position Little p = p
+position Big p = 56 - 8 * (p / 8) + p % 8
+
+-- the bytes as a number, the first the least significant
+unfoldable pub value : List ℕ → ℕ
+value [] = 0
+value (b ∷ f) = b + 256 * value f
+
+-- the low k bytes of a number, the least significant first
+unfoldable pub bytesOf : ℕ → ℕ → List ℕ
+bytesOf zero w = []
+bytesOf (suc k) w = w % 256 ∷ bytesOf k (w / 256)
+
+-- eight bytes in the other order
+unfoldable pub swapped : ℕ → ℕ
+swapped w = value (reverse (bytesOf 8 w))
+
+-- bit q is bit `position o q` of w
+unfoldable pub turned : Order → ℕ → ℕ
+turned Little w = w
+turned Big w = swapped w
+
+-- `size` bits of w, from bit `at` on
+unfoldable pub field : ℕ → ℕ → ℕ → ℕ
+field w at size = w / 2 ^ at % 2 ^ size
+
+-- w with the low `size` bits of x in their place
+unfoldable pub withField : ℕ → ℕ → ℕ → ℕ → ℕ
+withField w at size x = w - field w at size * 2 ^ at + x % 2 ^ size * 2 ^ at

@@ -1,0 +1,120 @@
+// Packing of message values into I-PDUs and back, under either byte order (document 01, "Bits").
+//
+// A frame is a slice of 1 to 8 bytes; a slot is one of exactly 8 bytes, in which the interaction layer keeps every I-PDU.
+// `pack`, `unpack` and `has_room` take anything and refuse what the rules leave out. `pack_slot` and `unpack_slot` are for
+// callers that have checked the place: a word operation each, with no loop over bits.
+mod walk;
+mod word;
+
+ghost use mathlib.Core.Path.{_≡_};
+ghost use Prim.Native.Nat.{ℕ, _≤_, _<_};
+ghost use lib.ListN.{length};
+ghost use Rattle.bits.specs.Bits.{room, packed, unpacked};
+ghost use Rattle.bits.specs.Frames.{InSlot, isPlace, packing, frameAfter, unpacking};
+
+// The byte order of a message in its I-PDU.
+pub enum Order {
+    Little,
+    Big,
+}
+
+// A size in bits: the length of a message.
+pub struct BitSize(pub u32);
+
+// A length in bytes: that of an I-PDU.
+pub struct ByteLength(pub u32);
+
+// What `pack` answers.
+pub enum Packing {
+    Packed,
+    Refused,
+}
+
+// What `unpack` answers.
+pub enum Unpacking {
+    Value(u32),
+    Refused,
+}
+
+// Whether a message of `size` bits that starts at bit `start` lies inside an I-PDU of `length` bytes.
+pub fn has_room(order: Order, start: u32, size: BitSize, length: ByteLength) -> bool
+    ensures { λ r. ⌜ r ≡ room order start (size .0) (length .0) ⌝ }
+{
+    let n = start as u64;
+    let bits = size.0 as u64;
+    let end = 8 * (length.0 as u64);
+    match order {
+        Order::Little => n + bits <= end,
+        Order::Big => n < end && bits <= 8 * (n / 8 + 1) - n % 8,
+    }
+}
+
+// Whether a frame of `length` bytes has a message of `size` bits at `start`.
+fn is_place(order: Order, start: u32, size: BitSize, length: usize) -> bool
+    ensures { λ r. ⌜ r ≡ isPlace order start (size .0) length ⌝ }
+{
+    if length == 0 {
+        return false;
+    }
+    if 8 < length {
+        return false;
+    }
+    let bits = size.0;
+    if bits == 0 {
+        return false;
+    }
+    if 32 < bits {
+        return false;
+    }
+    has_room(order, start, size, ByteLength(length as u32))
+}
+
+// Puts the low `size` bits of `value` at their places in `frame`. What the rules leave out is refused and changes no byte:
+// a frame of 0 or more than 8 bytes, a size of 0 or above 32, and a place with no room.
+pub fn pack(frame: &mut [u8], order: Order, start: u32, size: BitSize, value: u32) -> Packing
+    ensures { λ r. ⌜ r ≡ packing order start (size .0) (length (now (frame .entry))) ⌝ }
+    ensures { λ r. ⌜ now (frame .exit) ≡ frameAfter order start (size .0) value (now (frame .entry)) ⌝ }
+{
+    if !is_place(order, start, size, frame.len()) {
+        return Packing::Refused;
+    }
+    let mut slot = [0u8; 8];
+    let n = bytes::copy(frame, &mut slot);
+    pack_slot(&mut slot, order, start, size, value);
+    bytes::copy(&slot[..n], frame);
+    Packing::Packed
+}
+
+// The value whose bits stand at the places of a message in `frame`, or a refusal as for `pack`.
+pub fn unpack(frame: &[u8], order: Order, start: u32, size: BitSize) -> Unpacking
+    ensures { λ r. ⌜ r ≡ unpacking order start (size .0) (now (frame .entry)) ⌝ }
+{
+    if !is_place(order, start, size, frame.len()) {
+        return Unpacking::Refused;
+    }
+    let mut slot = [0u8; 8];
+    bytes::copy(frame, &mut slot);
+    Unpacking::Value(unpack_slot(&slot, order, start, size))
+}
+
+// `pack` in a slot, at a place that the caller has checked.
+pub fn pack_slot(slot: &mut [u8], order: Order, start: u32, size: BitSize, value: u32)
+    requires { ⌜ (length (now slot) ≡ 8) × InSlot order start (size .0) ⌝ }
+    ensures { λ _. ⌜ now (slot .exit) ≡ packed order start (size .0) value (now (slot .entry)) ⌝ }
+{
+    let bits = size.0;
+    let at = walk::position(order, start);
+    let old = word::turned(order, word::load(slot));
+    let new = word::with_field(old, at, bits, value);
+    word::store(slot, word::turned(order, new));
+}
+
+// `unpack` of a slot, at a place that the caller has checked.
+pub fn unpack_slot(slot: &[u8], order: Order, start: u32, size: BitSize) -> u32
+    requires { ⌜ (length (now slot) ≡ 8) × InSlot order start (size .0) ⌝ }
+    ensures { λ r. ⌜ r ≡ unpacked order start (size .0) (now (slot .entry)) ⌝ }
+{
+    let bits = size.0;
+    let at = walk::position(order, start);
+    word::field(word::turned(order, word::load(slot)), at, bits)
+}

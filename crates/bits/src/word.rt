@@ -1,0 +1,106 @@
+// A slot as one 64-bit word, and fields of bits in a word.
+use super::Order;
+ghost use mathlib.Core.Path.{_≡_};
+ghost use Prim.Native.Nat.{_+_, _≤_, _<_, _^_};
+ghost use lib.ListN.{length};
+ghost use Rattle.bits.specs.Slots.{value, bytesOf, swapped, turned, withField, field};
+
+fn wide(x: u8) -> u64
+    ensures { λ r. ⌜ (r ≡ x) × (r < 256) ⌝ }
+{
+    x as u64
+}
+
+// The slot's bytes as a number, byte 0 the least significant.
+pub(crate) fn load(slot: &[u8]) -> u64
+    requires { ⌜ length (now slot) ≡ 8 ⌝ }
+    ensures { λ r. ⌜ r ≡ value (now (slot .entry)) ⌝ }
+{
+    let h = wide(slot[7]);
+    let g = wide(slot[6]) + 256 * h;
+    let f = wide(slot[5]) + 256 * g;
+    let e = wide(slot[4]) + 256 * f;
+    let d = wide(slot[3]) + 256 * e;
+    let c = wide(slot[2]) + 256 * d;
+    let b = wide(slot[1]) + 256 * c;
+    wide(slot[0]) + 256 * b
+}
+
+// The other way round: the number's bytes into the slot.
+pub(crate) fn store(slot: &mut [u8], word: u64)
+    requires { ⌜ length (now slot) ≡ 8 ⌝ }
+    ensures { λ _. ⌜ now (slot .exit) ≡ bytesOf 8 word ⌝ }
+{
+    let b = word / 256;
+    let c = b / 256;
+    let d = c / 256;
+    let e = d / 256;
+    let f = e / 256;
+    let g = f / 256;
+    let h = g / 256;
+    slot[0] = (word % 256) as u8;
+    slot[1] = (b % 256) as u8;
+    slot[2] = (c % 256) as u8;
+    slot[3] = (d % 256) as u8;
+    slot[4] = (e % 256) as u8;
+    slot[5] = (f % 256) as u8;
+    slot[6] = (g % 256) as u8;
+    slot[7] = (h % 256) as u8;
+}
+
+// The word with its bytes in the other order.
+fn swap_bytes(word: u64) -> u64
+    ensures { λ r. ⌜ r ≡ swapped word ⌝ }
+{
+    let b = word / 256;
+    let c = b / 256;
+    let d = c / 256;
+    let e = d / 256;
+    let f = e / 256;
+    let g = f / 256;
+    let h = g / 256;
+    let s = b % 256 + 256 * (word % 256);
+    let t = c % 256 + 256 * s;
+    let u = d % 256 + 256 * t;
+    let v = e % 256 + 256 * u;
+    let w = f % 256 + 256 * v;
+    let x = g % 256 + 256 * w;
+    h % 256 + 256 * x
+}
+
+// The word whose bits stand in the order's walk, from one whose bits stand by their I-PDU places; and back.
+pub(crate) fn turned(order: Order, word: u64) -> u64
+    ensures { λ r. ⌜ r ≡ turned order word ⌝ }
+{
+    match order {
+        Order::Little => word,
+        Order::Big => swap_bytes(word),
+    }
+}
+
+fn power_of_two(n: u32) -> u64
+    requires { ⌜ n < 64 ⌝ }
+    ensures { λ r. ⌜ r ≡ 2 ^ n ⌝ }
+{
+    1u64 << n
+}
+
+// `bits` bits of the word, from bit `at` on.
+pub(crate) fn field(word: u64, at: u32, bits: u32) -> u32
+    requires { ⌜ (at < 64) × (bits ≤ 32) ⌝ }
+    ensures { λ r. ⌜ r ≡ field word at bits ⌝ }
+{
+    (word / power_of_two(at) % power_of_two(bits)) as u32
+}
+
+// The word with the low `bits` bits of `x` from bit `at` on.
+pub(crate) fn with_field(word: u64, at: u32, bits: u32, x: u32) -> u64
+    requires { ⌜ (at + bits ≤ 64) × (at < 64) × (bits ≤ 32) ⌝ }
+    ensures { λ r. ⌜ r ≡ withField word at bits x ⌝ }
+{
+    let p = power_of_two(at);
+    let q = power_of_two(bits);
+    let old = word / p % q * p;
+    let new = (x as u64) % q * p;
+    word - old + new
+}
