@@ -12,8 +12,8 @@ use lib.Dec.{leb, ltb, eqb}
 use lib.ListN.{length, getD, take, length-append, List·getD-append}
 use Rattle.bits.specs.declared.Order.{Order}
 use Rattle.bits.specs.Bits.{pick, both, bit, number, frameBit, frame, place, room, written, packed, unpacked}
-use Rattle.bits.specs.Slots.{position, value, bytesOf, turned, field, withField}
-use Rattle.bits.specs.Frames.{InSlot, isPlace}
+use Rattle.bits.specs.Slots.{position, InSlot}
+use Rattle.bits.specs.Frames.{isPlace}
 use Rattle.bits.proofs.Basics.{lt-or-le, eq-or-ne, both-left, both-right}
 use Rattle.bits.proofs.Numbers.{bit-lt, number-ext, number-lt, number-bits}
 use Rattle.bits.proofs.Frames.{Bytes, frameBit-lt, frame-length, frame-bit, frame-bytes, frame-ext, frame-take, value-bit, bytesOf-frame}
@@ -143,8 +143,9 @@ unpacked-front o start size f z fits =
 
 pub record Allowed (o : Order) (start size L : ℕ) : Type 0 where
   pub holds : isPlace o start size L ≡ true
+  pub begins : start < 64
   pub fits : Fits o start size L
-  pub slot : InSlot o start size
+  pub slot : InSlot (position o start) size
 
 pub allowed : (o : Order) (start size L : ℕ) → isPlace o start size L ≡ true → Allowed o start size L
 unfolding isPlace
@@ -156,82 +157,13 @@ allowed o start size L e =
     let short : L ≤ 8 = leb-true L 8 (both-right (ltb 0 L) _ lengths) in
     let some : 0 < size = ltb-true 0 size (both-left _ (leb size 32) sizes) in
     let inside : room o start size L ≡ true = both-right (both (ltb 0 size) (leb size 32)) _ rest in
+    let along = run o start size some (room-slot o start size L short inside) in
     record {
       holds = e;
+      begins = along .begins;
       fits = record { some = some; short = short; inside = inside };
-      slot =
-          record {
-            some = some;
-            most = leb-true size 32 (both-right (ltb 0 size) _ sizes);
-            inside = room-slot o start size L short inside;
-          };
+      slot = record { some = some; most = leb-true size 32 (both-right (ltb 0 size) _ sizes); inside = along .ends };
     }
 
 pub passed : (o : Order) (start size L : ℕ) (b : Bool) → b ≡ isPlace o start size L → not b ≡ false → Allowed o start size L
 passed o start size L b e t = allowed o start size L (sym e ∙ not-false b t)
-
--- ---- a slot's word
-
--- what `pack_slot` asks of its caller says of positions
-pub slot-run : (o : Order) (start size : ℕ) → InSlot o start size → Run o start size
-slot-run o start size slot = run o start size (slot .some) (slot .inside)
-
-module _ (o : Order) (start size : ℕ) (f : List ℕ) (bytes : Bytes f) (eight : length f ≡ 8) (slot : InSlot o start size) where
-  here : Run o start size
-  here = slot-run o start size slot
-
-  word : ℕ
-  word = turned o (value f)
-
-  word-bit : (p : ℕ) → p < 64 → bit word p ≡ frameBit f (position o p)
-  unfolding word
-  word-bit p h = turned-bit o (value f) p h ∙ value-bit f bytes (position o p)
-
-  -- the bit that stands i places along the walk from the start
-  at-place : (i : ℕ) → i < size → position o (position o start + i) ≡ place o start i
-  at-place i h =
-      let a : Along o start i = along o start i (here .begins) (omega (arith, here .ends)) in
-      ap (position o) (sym (a .at)) ∙ position-twice o (place o start i) (a .inside)
-
-  pub slot-unpacked : field (turned o (value f)) (position o start) size ≡ unpacked o start size f
-  unfolding unpacked word
-  slot-unpacked =
-      field-number _ _ _
-      ∙ number-ext size _ _
-      (λ i h. word-bit (position o start + i) (omega (arith, here .ends)) ∙ ap (frameBit f) (at-place i h))
-
-  slot-bit : (v p : ℕ) → p < 64 → bit (withField word (position o start) size v) (position o p) ≡ written o start v f size p
-  slot-bit v p h =
-      ⊎-elim
-      (λ below. with-field-below word start-at size v at below ∙ same (λ i k e. omega arith))
-      (λ from. ⊎-elim (own (at - start-at) (omega arith)) (λ past. above (at - start-at - size) (omega arith)) (lt-or-le (at - start-at) size))
-      (lt-or-le at start-at)
-    where
-      start-at : ℕ
-      start-at = position o start
-
-      at : ℕ
-      at = position o p
-
-      same : ((i : ℕ) → i < size → at ≡ start-at + i → ⊥) → bit word at ≡ written o start v f size p
-      same apart =
-          word-bit at (position-lt o p h) ∙ ap (frameBit f) (position-twice o p h)
-          ∙ sym (written-other o start v f size p (λ i k e. apart i k (ap (position o) (sym e) ∙ along o start i (here .begins) (omega (arith, here .ends)) .at)))
-
-      own : (i : ℕ) → at ≡ start-at + i → i < size → bit (withField word start-at size v) at ≡ written o start v f size p
-      own i e k =
-          let met : place o start i ≡ p = sym (at-place i k) ∙ ap (position o) (sym e) ∙ position-twice o p h in
-          ap (bit (withField word start-at size v)) e ∙ with-field-in word start-at size v i k
-          ∙ sym (written-own o start v f size i here k) ∙ ap (written o start v f size) met
-
-      above : (i : ℕ) → at ≡ start-at + (size + i) → bit (withField word start-at size v) at ≡ written o start v f size p
-      above i e =
-          ap (bit (withField word start-at size v)) e ∙ with-field-above word start-at size v i ∙ ap (bit word) (sym e)
-          ∙ same (λ j k w. omega arith)
-
-  pub slot-packed : (v : ℕ) → bytesOf 8 (turned o (withField (turned o (value f)) (position o start) size v)) ≡ packed o start size v f
-  unfolding packed word
-  slot-packed v =
-      bytesOf-frame 8 _
-      ∙ frame-ext 8 _ (written o start v f size) (λ p h. turned-bit o _ p h ∙ slot-bit v p h)
-      ∙ ap (λ (L : ℕ). frame L (written o start v f size)) (sym eight)

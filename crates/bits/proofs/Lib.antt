@@ -4,3 +4,5 @@ pub mod Frames
 pub mod Places
 pub mod Slots
 pub mod Laws
+pub mod Words
+pub mod Cases

@@ -1,9 +1,8 @@
 -- What `pack` and `unpack` answer for any frame, and what they leave in it: frames of 1 to 8 bytes, messages of 1 to 32 bits.
 -- Assumes nothing.
-use mathlib.Core.Bool.{Bool, true}
-use mathlib.Core.Path.{_≡_}
+use mathlib.Core.Bool.{Bool}
 use mathlib.Core.List.{List}
-use Prim.Native.Nat.{ℕ, _≤_, _<_}
+use Prim.Native.Nat.{ℕ}
 use lib.Dec.{leb, ltb}
 use lib.ListN.{length}
 use Rattle.bits.specs.declared.Order.{Order}
@@ -15,12 +14,6 @@ use Rattle.bits.specs.Bits.{pick, both, room, packed, unpacked}
 unfoldable pub isPlace : Order → ℕ → ℕ → ℕ → Bool
 isPlace o start size L =
     both (both (ltb 0 L) (leb L 8)) (both (both (ltb 0 size) (leb size 32)) (room o start size L))
-
--- the same in a slot of 8 bytes, as the facts that `pack_slot` asks of its caller
-pub record InSlot (o : Order) (start size : ℕ) : Type 0 where
-  pub some : 0 < size
-  pub most : size ≤ 32
-  pub inside : room o start size 8 ≡ true
 
 abbrev pub packing : Order → ℕ → ℕ → ℕ → Packing
 packing o start size L = pick (isPlace o start size L) Packing.Packed Packing.Refused

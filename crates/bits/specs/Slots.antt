@@ -1,7 +1,7 @@
 -- A slot of 8 bytes as one number, and fields of bits in a number: what the code of `walk` and `word` computes.
 -- Nothing here is a rule of document 01; proofs/Laws.antt shows that it meets them. Assumes nothing.
 use mathlib.Core.List.{List, [], _∷_, reverse}
-use Prim.Native.Nat.{ℕ, zero, suc, _+_, _-_, _*_, _/_, _%_, _^_}
+use Prim.Native.Nat.{ℕ, zero, suc, _+_, _-_, _*_, _/_, _%_, _^_, _≤_, _<_}
 use Rattle.bits.specs.declared.Order.{Order}
 use Rattle.bits.specs.declared.Order.the-variants.{Little, Big}
 
@@ -36,3 +36,9 @@ field w at size = w / 2 ^ at % 2 ^ size
 -- w with the low `size` bits of x in their place
 unfoldable pub withField : ℕ → ℕ → ℕ → ℕ → ℕ
 withField w at size x = w - field w at size * 2 ^ at + x % 2 ^ size * 2 ^ at
+
+-- what a caller of `pack_slot` and `unpack_slot` has checked: the run of positions lies in the slot
+pub record InSlot (at size : ℕ) : Type 0 where
+  pub some : 0 < size
+  pub most : size ≤ 32
+  pub inside : at + size ≤ 64

@@ -2,15 +2,17 @@
 //
 // A frame is a slice of 1 to 8 bytes; a slot is one of exactly 8 bytes, in which the interaction layer keeps every I-PDU.
 // `pack`, `unpack` and `has_room` take anything and refuse what the rules leave out. `pack_slot` and `unpack_slot` are for
-// callers that have checked the place: a word operation each, with no loop over bits.
+// callers that have checked the place and have its `position`: a word operation each, with no loop over bits and no branch.
 mod walk;
 mod word;
 
+pub use walk::position;
 ghost use mathlib.Core.Path.{_≡_};
 ghost use Prim.Native.Nat.{ℕ, _≤_, _<_};
 ghost use lib.ListN.{length};
 ghost use Rattle.bits.specs.Bits.{room, packed, unpacked};
-ghost use Rattle.bits.specs.Frames.{InSlot, isPlace, packing, frameAfter, unpacking};
+ghost use Rattle.bits.specs.Frames.{isPlace, packing, frameAfter, unpacking};
+ghost use Rattle.bits.specs.Slots.{InSlot, position};
 
 // The byte order of a message in its I-PDU.
 pub enum Order {
@@ -78,9 +80,10 @@ pub fn pack(frame: &mut [u8], order: Order, start: u32, size: BitSize, value: u3
     if !is_place(order, start, size, frame.len()) {
         return Packing::Refused;
     }
+    let at = position(order, start);
     let mut slot = [0u8; 8];
     let n = bytes::copy(frame, &mut slot);
-    pack_slot(&mut slot, order, start, size, value);
+    pack_slot(&mut slot, order, at, size, value);
     bytes::copy(&slot[..n], frame);
     Packing::Packed
 }
@@ -92,29 +95,28 @@ pub fn unpack(frame: &[u8], order: Order, start: u32, size: BitSize) -> Unpackin
     if !is_place(order, start, size, frame.len()) {
         return Unpacking::Refused;
     }
+    let at = position(order, start);
     let mut slot = [0u8; 8];
     bytes::copy(frame, &mut slot);
-    Unpacking::Value(unpack_slot(&slot, order, start, size))
+    Unpacking::Value(unpack_slot(&slot, order, at, size))
 }
 
-// `pack` in a slot, at a place that the caller has checked.
-pub fn pack_slot(slot: &mut [u8], order: Order, start: u32, size: BitSize, value: u32)
-    requires { ⌜ (length (now slot) ≡ 8) × InSlot order start (size .0) ⌝ }
-    ensures { λ _. ⌜ now (slot .exit) ≡ packed order start (size .0) value (now (slot .entry)) ⌝ }
+// `pack` in a slot, for a message that starts `at` bits along its order's walk.
+pub fn pack_slot(slot: &mut [u8], order: Order, at: u32, size: BitSize, value: u32)
+    requires { ⌜ (length (now slot) ≡ 8) × InSlot at (size .0) ⌝ }
+    ensures { λ _. ⌜ now (slot .exit) ≡ packed order (position order at) (size .0) value (now (slot .entry)) ⌝ }
 {
     let bits = size.0;
-    let at = walk::position(order, start);
     let old = word::turned(order, word::load(slot));
     let new = word::with_field(old, at, bits, value);
     word::store(slot, word::turned(order, new));
 }
 
-// `unpack` of a slot, at a place that the caller has checked.
-pub fn unpack_slot(slot: &[u8], order: Order, start: u32, size: BitSize) -> u32
-    requires { ⌜ (length (now slot) ≡ 8) × InSlot order start (size .0) ⌝ }
-    ensures { λ r. ⌜ r ≡ unpacked order start (size .0) (now (slot .entry)) ⌝ }
+// `unpack` of a slot, for a message that starts `at` bits along its order's walk.
+pub fn unpack_slot(slot: &[u8], order: Order, at: u32, size: BitSize) -> u32
+    requires { ⌜ (length (now slot) ≡ 8) × InSlot at (size .0) ⌝ }
+    ensures { λ r. ⌜ r ≡ unpacked order (position order at) (size .0) (now (slot .entry)) ⌝ }
 {
     let bits = size.0;
-    let at = walk::position(order, start);
     word::field(word::turned(order, word::load(slot)), at, bits)
 }

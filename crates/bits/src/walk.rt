@@ -73,8 +73,8 @@ const BIG_WALK: [u8; 64] = [
     7,
 ];
 
-// How far along the walk of `order` the I-PDU bit `place` stands.
-pub(crate) fn position(order: Order, place: u32) -> u32
+// How far along the walk of `order` through a slot the I-PDU bit `place` stands.
+pub fn position(order: Order, place: u32) -> u32
     requires { ⌜ place < 64 ⌝ }
     ensures { λ r. ⌜ r ≡ position order place ⌝ }
 {

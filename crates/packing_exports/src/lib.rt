@@ -1,0 +1,50 @@
+// Packing of a slot for callers in C and Rust: the benchmark and the tests link it.
+use bits::BitSize;
+use bits::Order;
+ghost use mathlib.Core.Path.{_≡_};
+ghost use Prim.Native.Nat.{_<_};
+ghost use lib.ListN.{length};
+ghost use Rattle.bits.specs.Bits.{packed, unpacked};
+ghost use Rattle.bits.specs.Slots.{position, InSlot};
+ghost use Rattle.packing_exports.specs.Orders.{orderOf};
+
+// 0 is little, anything else big.
+fn order_of(order: u32) -> Order
+    ensures { λ r. ⌜ r ≡ orderOf order ⌝ }
+{
+    if order == 0 {
+        Order::Little
+    } else {
+        Order::Big
+    }
+}
+
+#[no_mangle]
+pub extern "C" fn birnenschloss_position(order: u32, place: u32) -> u32
+    requires { ⌜ place < 64 ⌝ }
+    ensures { λ r. ⌜ r ≡ position (orderOf order) place ⌝ }
+{
+    bits::position(order_of(order), place)
+}
+
+#[no_mangle]
+pub extern "C" fn birnenschloss_pack_slot(
+    slot: &mut [u8],
+    order: u32,
+    at: u32,
+    size: u32,
+    value: u32,
+)
+    requires { ⌜ (length (now slot) ≡ 8) × InSlot at size ⌝ }
+    ensures { λ _. ⌜ now (slot .exit) ≡ packed (orderOf order) (position (orderOf order) at) size value (now (slot .entry)) ⌝ }
+{
+    bits::pack_slot(slot, order_of(order), at, BitSize(size), value)
+}
+
+#[no_mangle]
+pub extern "C" fn birnenschloss_unpack_slot(slot: &[u8], order: u32, at: u32, size: u32) -> u32
+    requires { ⌜ (length (now slot) ≡ 8) × InSlot at size ⌝ }
+    ensures { λ r. ⌜ r ≡ unpacked (orderOf order) (position (orderOf order) at) size (now (slot .entry)) ⌝ }
+{
+    bits::unpack_slot(slot, order_of(order), at, BitSize(size))
+}

@@ -1,0 +1,93 @@
+#!/usr/bin/env python3
+"""Packing after OSEK COM 3.0.3, section 2.4, written bit by bit from the document and not from the crates.
+
+packing.py            compares what it works out with crates/pack_frames/stdout, line by line
+packing.py --print    prints what it works out
+"""
+import os
+import sys
+
+STORED = os.path.join(os.path.dirname(os.path.abspath(__file__)), "..", "crates", "pack_frames", "stdout")
+
+
+def places(order, start, size):
+    """The I-PDU bit that each message bit goes to, as (byte, bit)."""
+    byte, bit = start // 8, start % 8
+    walk = []
+    for _ in range(size):
+        walk.append((byte, bit))
+        bit += 1
+        if bit == 8:
+            bit = 0
+            byte += 1 if order == "little" else -1
+    return walk
+
+
+def allowed(order, start, size, length):
+    inside = all(0 <= byte < length for byte, _ in places(order, start, size))
+    return 1 <= length <= 8 and 1 <= size <= 32 and inside
+
+
+def pack(frame, order, start, size, value):
+    out = list(frame)
+    for i, (byte, bit) in enumerate(places(order, start, size)):
+        out[byte] = out[byte] & ~(1 << bit) | (value >> i & 1) << bit
+    return out
+
+
+def unpack(frame, order, start, size):
+    return sum((frame[byte] >> bit & 1) << i for i, (byte, bit) in enumerate(places(order, start, size)))
+
+
+def cases():
+    for case, order, start, value in [(1, "little", 13, 2748), (2, "big", 18, 2748), (3, "little", 13, 6844)]:
+        frame = pack([0] * 4, order, start, 12, value)
+        text = " ".join(f"{b:02x}" for b in frame)
+        yield f"case {case}: {text} unpacks to {unpack(frame, order, start, 12)}"
+    for case, order, start, size, length in [
+        (4, "big", 18, 22, 4),
+        (4, "big", 18, 23, 4),
+        (5, "little", 13, 27, 5),
+        (5, "little", 13, 28, 5),
+    ]:
+        fits = "fit" if allowed(order, start, size, length) else "do not fit"
+        yield f"case {case}: {size} bits {fits}"
+
+
+def sweep(length, order):
+    packed, digest = 0, 1
+
+    def mix(x):
+        nonlocal digest
+        digest = (digest * 31 + x) % 4294967291
+
+    for start in range(81):
+        for size in range(34):
+            frame, back = [0xA5] * 9, 4294967290
+            value = (start * 2654435761 + size * 40503 + 1) % 2**32
+            if allowed(order, start, size, length):
+                packed += 1
+                frame[:length] = pack(frame[:length], order, start, size, value)
+                back = unpack(frame[:length], order, start, size)
+                assert back == value % 2**size
+            for byte in frame:
+                mix(byte)
+            mix(back)
+    return f"length {length} {order}: {packed} places, digest {digest}"
+
+
+def main():
+    lines = list(cases()) + [sweep(length, order) for length in range(10) for order in ("little", "big")]
+    if "--print" in sys.argv:
+        print("\n".join(lines))
+        return
+    stored = open(STORED).read().split("\n")
+    wrong = [(i, a, b) for i, (a, b) in enumerate(zip(lines + [""], stored), 1) if a != b]
+    if wrong or len(stored) != len(lines) + 1:
+        for i, a, b in wrong[:5]:
+            print(f"line {i}: worked out {a!r}, stored {b!r}")
+        sys.exit(f"packing.py: crates/pack_frames/stdout differs ({len(lines)} lines worked out, {len(stored) - 1} stored)")
+    print(f"packing.py: {len(lines)} lines of crates/pack_frames/stdout agree")
+
+
+main()
