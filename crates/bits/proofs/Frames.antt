@@ -1,4 +1,4 @@
--- Laws of `frameBit`, `frame`, `value` and `bytesOf`: a frame is its bits.
+-- Laws of `frameBit` and `frame`: a frame is its bits, and so is the number of its bytes.
 -- Assumes nothing.
 use mathlib.Core.Path.{_≡_, refl, sym, ap, _∙_}
 use mathlib.Core.Logic.{⊎-elim}
@@ -6,15 +6,11 @@ use mathlib.Core.List.{List, [], _∷_, _++_}
 use Prim.Native.Nat.{ℕ, zero, suc, _+_, _-_, _*_, _/_, _%_, _^_, _≤_, _<_}
 use native.Mathlib.Nat.{le-of-suc-le-suc, not-suc-le-zero}
 use native.Mathlib.Omega.{arith}
-use lib.ListN.{length, getD, take, drop, drop-of-length-le}
+use lib.ListN.{length, getD, take}
 use Rattle.bits.specs.Bits.{bit, number, frameBit, frame}
-use Rattle.bits.specs.Slots.{value, bytesOf}
-use Rattle.bits.proofs.Basics.{lt-or-le}
+use Rattle.memory.specs.Bytes.{Bytes, value, bytesOf}
+use Rattle.memory.proofs.Laws.{lt-or-le}
 use Rattle.bits.proofs.Numbers.{bit-lt, bit-of-zero, bit-low, bit-high, bit-mod, bit-div, number-ext, number-bit, number-lt, number-bits}
-
--- every element is a byte
-abbrev pub Bytes : List ℕ → Type 0
-Bytes f = (i : ℕ) → getD f i 0 < 256
 
 pub frameBit-lt : (f : List ℕ) (p : ℕ) → frameBit f p < 2
 unfolding frameBit
@@ -106,15 +102,3 @@ bytesOf-frame zero w = refl
 bytesOf-frame (suc k) w =
     cc
     (number-bits 8 w, bytesOf-frame k (w / 256), frame-ext k (bit (w / 256)) (λ i. bit w (8 + i)) (λ p h. bit-div w 8 p))
-
--- a number is its first byte and 256 times the rest
-pub value-step : (f : List ℕ) (k : ℕ) → value (drop k f) ≡ getD f k 0 + 256 * value (drop (suc k) f)
-unfolding value
-value-step [] zero = refl
-value-step [] (suc k) = refl
-value-step (b ∷ f) zero = refl
-value-step (b ∷ f) (suc k) = value-step f k
-
-pub value-past : (f : List ℕ) (k : ℕ) → length f ≤ k → value (drop k f) ≡ 0
-unfolding value
-value-past f k h = ap value (drop-of-length-le f h)

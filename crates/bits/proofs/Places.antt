@@ -8,9 +8,9 @@ use borrow.Author.Tests.{ltb-true, leb-true, eqb-true, eqb-false, lt-ltb, le-leb
 use lib.Dec.{leb, ltb, eqb}
 use Rattle.bits.specs.declared.Order.{Order}
 use Rattle.bits.specs.declared.Order.the-variants.{Little, Big}
-use Rattle.bits.specs.Bits.{pick, both, after, place, room}
+use Rattle.bits.specs.Bits.{pick, after, place, room}
 use Rattle.bits.specs.Slots.{position}
-use Rattle.bits.proofs.Basics.{both-left, both-right}
+use Rattle.bits.proofs.Basics.{and-split}
 
 -- Little: message bit i goes to bit n + i.
 pub place-little : (n i : ℕ) → place Little n i ≡ n + i
@@ -77,8 +77,8 @@ pub run : (o : Order) (start size : ℕ) → 0 < size → room o start size 8 �
 unfolding room position
 run Little start size some e = let h : start + size ≤ 64 = leb-true _ _ e in record { begins = omega arith; ends = omega arith }
 run Big start size some e =
-    let h : start < 64 = ltb-true _ _ (both-left _ (leb size (8 * (start / 8 + 1) - start % 8)) e) in
-    let k : size ≤ 8 * (start / 8 + 1) - start % 8 = leb-true _ _ (both-right (ltb start 64) _ e) in
+    let h : start < 64 = ltb-true _ _ (and-split _ (leb size (8 * (start / 8 + 1) - start % 8)) e .0) in
+    let k : size ≤ 8 * (start / 8 + 1) - start % 8 = leb-true _ _ (and-split (ltb start 64) _ e .1) in
     record { begins = h; ends = omega arith }
 
 -- room in a shorter I-PDU is room in a slot, and then each bit lies in the I-PDU
@@ -86,16 +86,16 @@ pub room-slot : (o : Order) (start size L : ℕ) → L ≤ 8 → room o start si
 unfolding room
 room-slot Little start size L h e = let k : start + size ≤ 8 * L = leb-true _ _ e in le-leb (start + size) 64 (omega arith)
 room-slot Big start size L h e =
-    let k : start < 8 * L = ltb-true _ _ (both-left _ (leb size (8 * (start / 8 + 1) - start % 8)) e) in
+    let k : start < 8 * L = ltb-true _ _ (and-split _ (leb size (8 * (start / 8 + 1) - start % 8)) e .0) in
     let first : ltb start 64 ≡ true = lt-ltb start 64 (omega arith) in
-    rw first (both-right (ltb start (8 * L)) _ e)
+    rw first (and-split (ltb start (8 * L)) _ e .1)
 
 pub place-inside : (o : Order) (start size L i : ℕ) → L ≤ 8 → room o start size L ≡ true → i < size → place o start i < 8 * L
 unfolding room position
 place-inside Little start size L i h e k =
     let r : start + size ≤ 8 * L = leb-true _ _ e in omega (arith, place-little start i)
 place-inside Big start size L i h e k =
-    let s : start < 8 * L = ltb-true _ _ (both-left _ (leb size (8 * (start / 8 + 1) - start % 8)) e) in
+    let s : start < 8 * L = ltb-true _ _ (and-split _ (leb size (8 * (start / 8 + 1) - start % 8)) e .0) in
     let r : Run Big start size = run Big start size (omega arith) (room-slot Big start size L h e) in
     let a : Along Big start i = along Big start i (r .begins) (omega arith) in
     omega arith

@@ -10,13 +10,14 @@ use lib.ListN.{length, getD, length-reverse, List·getD-append, List·getD-eq-de
 use lib.Seq.{getD-append-add, getD-append-seam}
 use lib.Pow.{pow-pos, pow-mono, pow-add, shl-lt, shr-lt, shr-shr}
 use lib.Arith.{digits-lt}
+use Rattle.memory.specs.Bytes.{Bytes, value, bytesOf}
 use Rattle.bits.specs.declared.Order.{Order}
 use Rattle.bits.specs.declared.Order.the-variants.{Little, Big}
 use Rattle.bits.specs.Bits.{bit, number, frameBit, frame}
-use Rattle.bits.specs.Slots.{position, value, bytesOf, swapped, turned, field, withField}
-use Rattle.bits.proofs.Basics.{lt-or-le}
+use Rattle.bits.specs.Slots.{position, swapped, turned, field, withField}
+use Rattle.memory.proofs.Laws.{lt-or-le}
 use Rattle.bits.proofs.Numbers.{bit-lt, bit-low, bit-high, bit-mod, bit-div, number-ext, number-bits}
-use Rattle.bits.proofs.Frames.{Bytes, frame-bit, frame-length, frame-bytes, value-bit, bytesOf-frame}
+use Rattle.bits.proofs.Frames.{frame-bit, frame-length, frame-bytes, value-bit, bytesOf-frame}
 use Rattle.bits.proofs.Places.{position-lt}
 
 -- an element of a reversed list, counted from the other end

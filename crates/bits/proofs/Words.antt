@@ -6,12 +6,13 @@ use mathlib.Core.List.{List}
 use Prim.Native.Nat.{ℕ, _+_, _-_, _<_}
 use native.Mathlib.Omega.{arith}
 use lib.ListN.{length}
+use Rattle.memory.specs.Bytes.{Bytes, value, bytesOf}
 use Rattle.bits.specs.declared.Order.{Order}
 use Rattle.bits.specs.Bits.{bit, frameBit, frame, place, written, packed, unpacked}
-use Rattle.bits.specs.Slots.{position, value, bytesOf, turned, field, withField, InSlot}
-use Rattle.bits.proofs.Basics.{lt-or-le}
+use Rattle.bits.specs.Slots.{position, turned, field, withField, InSlot}
+use Rattle.memory.proofs.Laws.{lt-or-le}
 use Rattle.bits.proofs.Numbers.{number-ext}
-use Rattle.bits.proofs.Frames.{Bytes, frame-ext, value-bit, bytesOf-frame}
+use Rattle.bits.proofs.Frames.{frame-ext, value-bit, bytesOf-frame}
 use Rattle.bits.proofs.Places.{position-lt, position-twice, Along, along, Run}
 use Rattle.bits.proofs.Slots.{turned-bit, field-number, with-field-in, with-field-below, with-field-above}
 use Rattle.bits.proofs.Laws.{written-own, written-other}

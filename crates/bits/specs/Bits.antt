@@ -1,6 +1,6 @@
 -- Document 01, "Bits", in its order: bit numbers, places, room, packing, unpacking.
 -- Assumes nothing.
-use mathlib.Core.Bool.{Bool, true, false}
+use mathlib.Core.Bool.{Bool, true, false, _&&_}
 use mathlib.Core.List.{List, [], _∷_}
 use Prim.Native.Nat.{ℕ, zero, suc, _+_, _-_, _*_, _/_, _%_, _^_}
 use lib.Dec.{leb, ltb, eqb}
@@ -11,10 +11,6 @@ use Rattle.bits.specs.declared.Order.the-variants.{Little, Big}
 abbrev pub pick {ℓ} : {A : Type ℓ} → Bool → A → A → A
 pick true a b = a
 pick false a b = b
-
-abbrev pub both : Bool → Bool → Bool
-both true b = b
-both false b = false
 
 -- bit k of a number
 unfoldable pub bit : ℕ → ℕ → ℕ
@@ -37,7 +33,7 @@ place o start (suc i) = after o (place o start i)
 -- a message of this many bits lies inside an I-PDU of L bytes
 unfoldable pub room : Order → ℕ → ℕ → ℕ → Bool
 room Little n size L = leb (n + size) (8 * L)
-room Big n size L = both (ltb n (8 * L)) (leb size (8 * (n / 8 + 1) - n % 8))
+room Big n size L = ltb n (8 * L) && leb size (8 * (n / 8 + 1) - n % 8)
 
 -- the number whose bit i is b i, for each i below k; its bits from k on are 0
 unfoldable pub number : ℕ → (ℕ → ℕ) → ℕ

@@ -1,7 +1,8 @@
 -- A slot of 8 bytes as one number, and fields of bits in a number: what the code of `walk` and `word` computes.
--- Nothing here is a rule of document 01; proofs/Laws.antt shows that it meets them. Assumes nothing.
-use mathlib.Core.List.{List, [], _∷_, reverse}
-use Prim.Native.Nat.{ℕ, zero, suc, _+_, _-_, _*_, _/_, _%_, _^_, _≤_, _<_}
+-- Nothing here is a rule of document 01; proofs/Words.antt shows that it meets them. Assumes nothing.
+use mathlib.Core.List.{reverse}
+use Prim.Native.Nat.{ℕ, _+_, _-_, _*_, _/_, _%_, _^_, _≤_, _<_}
+use Rattle.memory.specs.Bytes.{value, bytesOf}
 use Rattle.bits.specs.declared.Order.{Order}
 use Rattle.bits.specs.declared.Order.the-variants.{Little, Big}
 
@@ -9,16 +10,6 @@ use Rattle.bits.specs.declared.Order.the-variants.{Little, Big}
 unfoldable pub position : Order → ℕ → ℕ
 position Little p = p
 position Big p = 56 - 8 * (p / 8) + p % 8
-
--- the bytes as a number, the first the least significant
-unfoldable pub value : List ℕ → ℕ
-value [] = 0
-value (b ∷ f) = b + 256 * value f
-
--- the low k bytes of a number, the least significant first
-unfoldable pub bytesOf : ℕ → ℕ → List ℕ
-bytesOf zero w = []
-bytesOf (suc k) w = w % 256 ∷ bytesOf k (w / 256)
 
 -- eight bytes in the other order
 unfoldable pub swapped : ℕ → ℕ

@@ -1,6 +1,6 @@
 // Packing of message values into I-PDUs and back, under either byte order (document 01, "Bits").
 //
-// A frame is a slice of 1 to 8 bytes; a slot is one of exactly 8 bytes, in which the interaction layer keeps every I-PDU.
+// A frame is a slice of 1 to 8 bytes; a slot is 8 bytes of lent memory, in which the interaction layer keeps an I-PDU.
 // `pack`, `unpack` and `has_room` take anything and refuse what the rules leave out. `pack_slot` and `unpack_slot` are for
 // callers that have checked the place and have its `position`: a word operation each, with no loop over bits and no branch.
 mod walk;
@@ -8,8 +8,9 @@ mod word;
 
 pub use walk::position;
 ghost use mathlib.Core.Path.{_≡_};
-ghost use Prim.Native.Nat.{ℕ, _≤_, _<_};
+ghost use Prim.Native.Nat.{ℕ, _+_, _≤_, _<_};
 ghost use lib.ListN.{length};
+ghost use Rattle.memory.specs.Bytes.{part, replaced};
 ghost use Rattle.bits.specs.Bits.{room, packed, unpacked};
 ghost use Rattle.bits.specs.Frames.{isPlace, packing, frameAfter, unpacking};
 ghost use Rattle.bits.specs.Slots.{InSlot, position};
@@ -47,7 +48,7 @@ pub fn has_room(order: Order, start: u32, size: BitSize, length: ByteLength) -> 
     let end = 8 * (length.0 as u64);
     match order {
         Order::Little => n + bits <= end,
-        Order::Big => n < end && bits <= 8 * (n / 8 + 1) - n % 8,
+        Order::Big => (n < end) & (bits <= 8 * (n / 8 + 1) - n % 8),
     }
 }
 
@@ -55,20 +56,12 @@ pub fn has_room(order: Order, start: u32, size: BitSize, length: ByteLength) -> 
 fn is_place(order: Order, start: u32, size: BitSize, length: usize) -> bool
     ensures { λ r. ⌜ r ≡ isPlace order start (size .0) length ⌝ }
 {
-    if length == 0 {
-        return false;
-    }
     if 8 < length {
         return false;
     }
     let bits = size.0;
-    if bits == 0 {
-        return false;
-    }
-    if 32 < bits {
-        return false;
-    }
-    has_room(order, start, size, ByteLength(length as u32))
+    let room = has_room(order, start, size, ByteLength(length as u32));
+    (1 <= length) & (length <= 8) & (1 <= bits) & (bits <= 32) & room
 }
 
 // Puts the low `size` bits of `value` at their places in `frame`. What the rules leave out is refused and changes no byte:
@@ -83,7 +76,7 @@ pub fn pack(frame: &mut [u8], order: Order, start: u32, size: BitSize, value: u3
     let at = position(order, start);
     let mut slot = [0u8; 8];
     let n = bytes::copy(frame, &mut slot);
-    pack_slot(&mut slot, order, at, size, value);
+    pack_slot(&mut slot, 0, order, at, size, value);
     bytes::copy(&slot[..n], frame);
     Packing::Packed
 }
@@ -98,25 +91,25 @@ pub fn unpack(frame: &[u8], order: Order, start: u32, size: BitSize) -> Unpackin
     let at = position(order, start);
     let mut slot = [0u8; 8];
     bytes::copy(frame, &mut slot);
-    Unpacking::Value(unpack_slot(&slot, order, at, size))
+    Unpacking::Value(unpack_slot(&slot, 0, order, at, size))
 }
 
-// `pack` in a slot, for a message that starts `at` bits along its order's walk.
-pub fn pack_slot(slot: &mut [u8], order: Order, at: u32, size: BitSize, value: u32)
-    requires { ⌜ (length (now slot) ≡ 8) × InSlot at (size .0) ⌝ }
-    ensures { λ _. ⌜ now (slot .exit) ≡ packed order (position order at) (size .0) value (now (slot .entry)) ⌝ }
+// `pack` in the slot from byte `base` of `m` on, for a message that starts `at` bits along its order's walk.
+pub fn pack_slot(m: &mut [u8], base: usize, order: Order, at: u32, size: BitSize, value: u32)
+    requires { ⌜ (base + 8 ≤ length (now m)) × InSlot at (size .0) ⌝ }
+    ensures { λ _. ⌜ now (m .exit) ≡ replaced base (packed order (position order at) (size .0) value (part base 8 (now (m .entry)))) (now (m .entry)) ⌝ }
 {
     let bits = size.0;
-    let old = word::turned(order, word::load(slot));
+    let old = word::turned(order, memory::read64(m, base));
     let new = word::with_field(old, at, bits, value);
-    word::store(slot, word::turned(order, new));
+    memory::write64(m, base, word::turned(order, new));
 }
 
-// `unpack` of a slot, for a message that starts `at` bits along its order's walk.
-pub fn unpack_slot(slot: &[u8], order: Order, at: u32, size: BitSize) -> u32
-    requires { ⌜ (length (now slot) ≡ 8) × InSlot at (size .0) ⌝ }
-    ensures { λ r. ⌜ r ≡ unpacked order (position order at) (size .0) (now (slot .entry)) ⌝ }
+// `unpack` of that slot.
+pub fn unpack_slot(m: &[u8], base: usize, order: Order, at: u32, size: BitSize) -> u32
+    requires { ⌜ (base + 8 ≤ length (now m)) × InSlot at (size .0) ⌝ }
+    ensures { λ r. ⌜ r ≡ unpacked order (position order at) (size .0) (part base 8 (now (m .entry))) ⌝ }
 {
     let bits = size.0;
-    word::field(word::turned(order, word::load(slot)), at, bits)
+    word::field(word::turned(order, memory::read64(m, base)), at, bits)
 }

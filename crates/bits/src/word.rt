@@ -1,52 +1,8 @@
-// A slot as one 64-bit word, and fields of bits in a word.
+// A slot's 64-bit word, and fields of bits in it.
 use super::Order;
 ghost use mathlib.Core.Path.{_≡_};
 ghost use Prim.Native.Nat.{_+_, _≤_, _<_, _^_};
-ghost use lib.ListN.{length};
-ghost use Rattle.bits.specs.Slots.{value, bytesOf, swapped, turned, withField, field};
-
-fn wide(x: u8) -> u64
-    ensures { λ r. ⌜ (r ≡ x) × (r < 256) ⌝ }
-{
-    x as u64
-}
-
-// The slot's bytes as a number, byte 0 the least significant.
-pub(crate) fn load(slot: &[u8]) -> u64
-    requires { ⌜ length (now slot) ≡ 8 ⌝ }
-    ensures { λ r. ⌜ r ≡ value (now (slot .entry)) ⌝ }
-{
-    let h = wide(slot[7]);
-    let g = wide(slot[6]) + 256 * h;
-    let f = wide(slot[5]) + 256 * g;
-    let e = wide(slot[4]) + 256 * f;
-    let d = wide(slot[3]) + 256 * e;
-    let c = wide(slot[2]) + 256 * d;
-    let b = wide(slot[1]) + 256 * c;
-    wide(slot[0]) + 256 * b
-}
-
-// The other way round: the number's bytes into the slot.
-pub(crate) fn store(slot: &mut [u8], word: u64)
-    requires { ⌜ length (now slot) ≡ 8 ⌝ }
-    ensures { λ _. ⌜ now (slot .exit) ≡ bytesOf 8 word ⌝ }
-{
-    let b = word / 256;
-    let c = b / 256;
-    let d = c / 256;
-    let e = d / 256;
-    let f = e / 256;
-    let g = f / 256;
-    let h = g / 256;
-    slot[0] = (word % 256) as u8;
-    slot[1] = (b % 256) as u8;
-    slot[2] = (c % 256) as u8;
-    slot[3] = (d % 256) as u8;
-    slot[4] = (e % 256) as u8;
-    slot[5] = (f % 256) as u8;
-    slot[6] = (g % 256) as u8;
-    slot[7] = (h % 256) as u8;
-}
+ghost use Rattle.bits.specs.Slots.{swapped, turned, withField, field};
 
 // The word with its bytes in the other order.
 fn swap_bytes(word: u64) -> u64

@@ -2,8 +2,9 @@
 use bits::BitSize;
 use bits::Order;
 ghost use mathlib.Core.Path.{_≡_};
-ghost use Prim.Native.Nat.{_<_};
+ghost use Prim.Native.Nat.{_≤_, _<_};
 ghost use lib.ListN.{length};
+ghost use Rattle.memory.specs.Bytes.{part, replaced};
 ghost use Rattle.bits.specs.Bits.{packed, unpacked};
 ghost use Rattle.bits.specs.Slots.{position, InSlot};
 ghost use Rattle.packing_exports.specs.Orders.{orderOf};
@@ -35,16 +36,16 @@ pub extern "C" fn birnenschloss_pack_slot(
     size: u32,
     value: u32,
 )
-    requires { ⌜ (length (now slot) ≡ 8) × InSlot at size ⌝ }
-    ensures { λ _. ⌜ now (slot .exit) ≡ packed (orderOf order) (position (orderOf order) at) size value (now (slot .entry)) ⌝ }
+    requires { ⌜ (8 ≤ length (now slot)) × InSlot at size ⌝ }
+    ensures { λ _. ⌜ now (slot .exit) ≡ replaced 0 (packed (orderOf order) (position (orderOf order) at) size value (part 0 8 (now (slot .entry)))) (now (slot .entry)) ⌝ }
 {
-    bits::pack_slot(slot, order_of(order), at, BitSize(size), value)
+    bits::pack_slot(slot, 0, order_of(order), at, BitSize(size), value)
 }
 
 #[no_mangle]
 pub extern "C" fn birnenschloss_unpack_slot(slot: &[u8], order: u32, at: u32, size: u32) -> u32
-    requires { ⌜ (length (now slot) ≡ 8) × InSlot at size ⌝ }
-    ensures { λ r. ⌜ r ≡ unpacked (orderOf order) (position (orderOf order) at) size (now (slot .entry)) ⌝ }
+    requires { ⌜ (8 ≤ length (now slot)) × InSlot at size ⌝ }
+    ensures { λ r. ⌜ r ≡ unpacked (orderOf order) (position (orderOf order) at) size (part 0 8 (now (slot .entry))) ⌝ }
 {
-    bits::unpack_slot(slot, order_of(order), at, BitSize(size))
+    bits::unpack_slot(slot, 0, order_of(order), at, BitSize(size))
 }

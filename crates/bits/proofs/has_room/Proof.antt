@@ -1,6 +1,5 @@
 -- `bits::has_room` meets its contract.
 -- Assumes nothing.
-use borrow.Author.Tests.{lt-ltb, le-ltb}
 use Rattle.bits.specs.Bits.{room}
 use borrow.Author.Needs.{needs}
 use Rattle.bits.proofs.has_room.Statement.{statement}
@@ -39,11 +38,7 @@ returns c = rw (c .enum-told .given .1)
 
 returns-2 : tie.Need-returns-2
 unfolding room
-returns-2 c = rw (c .before .enum-told2 .given .1, lt-ltb _ _ (c .if1 .taken))
-
-returns-3 : tie.Need-returns-3
-unfolding room
-returns-3 c = rw (c .before .enum-told2 .given .1, le-ltb _ _ (c .if1 .left))
+returns-2 c = rw (c .enum-told2 .given .1)
 
 pub has-room-spec : {M : Type 1} → statement M
 has-room-spec =
@@ -59,5 +54,4 @@ has-room-spec =
     mul-result
     sub-result
     returns
-    returns-2
-    returns-3)
+    returns-2)

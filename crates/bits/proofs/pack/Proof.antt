@@ -8,12 +8,13 @@ use native.Mathlib.Nat.{le-of-eq}
 use borrow.Author.Tests.{not-true}
 use lib.ListN.{length, take, drop, drop-of-length-le}
 use lib.Seq.{take-length, length-take-le}
+use Rattle.memory.proofs.Laws.{part-whole, replaced-whole}
 use Rattle.bits.specs.Bits.{packed}
 use Rattle.bits.specs.Frames.{isPlace}
 use Rattle.bits.proofs.Places.{position-twice}
 use Rattle.bits.proofs.Laws.{passed, packed-length, packed-front}
-use native.Mathlib.Omega.{arith}
 use borrow.Author.Needs.{needs}
+use native.Mathlib.Omega.{arith}
 use Rattle.bits.proofs.pack.Statement.{statement}
 use Rattle.bits.proofs.pack.Tie as tie
 
@@ -51,7 +52,7 @@ pack-slot-requires : tie.Need-pack-slot-requires
 pack-slot-requires c κs =
     let a = c .before .before .before .before .before .before .before .before .before .args in
     let ok = passed (a .order) (a .start) (a .size .0) (length (a .frame .now)) _ (c .before .before .before .before .before .before .before .is-place .ensures) (c .before .before .before .before .before .before .if1 .left) in
-    (c .before .before .copy .kept .1 .0, rw (c .before .before .before .before .before .position .ensures) (ok .slot))
+    (omega (arith, c .before .before .copy .kept .1 .0), rw (c .before .before .before .before .before .position .ensures) (ok .slot))
 
 array-share-prefix-slot : tie.Need-array-share-prefix-slot
 array-share-prefix-slot c =
@@ -87,15 +88,18 @@ returns-2 : tie.Need-returns-2
 returns-2 c =
     let a = c .before .before .before .before .before .before .before .before .before .before .before .before .before .before .before .before .args in
     let ok = passed (a .order) (a .start) (a .size .0) (length (a .frame .now)) _ (c .before .before .before .before .before .before .before .before .before .before .before .before .before .before .is-place .ensures) (c .before .before .before .before .before .before .before .before .before .before .before .before .before .if1 .left) in
-    let stored : take (c .before .before .before .before .before .before .before .before .before .copy .result) (c .before .before .before .before .before .before .pack-slot .last .0) ≡ packed (a .order) (a .start) (a .size .0) (a .value) (a .frame .now) =
+    let slot = c .before .before .before .before .before .before .before .before .before .copy .last .1 .0 in
+    let eight : length slot ≡ 8 = c .before .before .before .before .before .before .before .before .before .copy .kept .1 .0 in
+    let whole : c .before .before .before .before .before .before .pack-slot .last .0 ≡ packed (a .order) (a .start) (a .size .0) (a .value) slot =
     rw (
       c .before .before .before .before .before .before .pack-slot .ensures,
       c .before .before .before .before .before .before .before .before .before .before .before .before .position .ensures,
       position-twice (a .order) (a .start) (ok .begins),
-      c .before .before .before .before .before .before .before .before .before .copy .ensures .1,
-      c .before .before .before .before .before .before .before .before .before .copy .ensures .0,
-      take-length (a .frame .now),
+      part-whole 8 slot eight,
     )
+    (replaced-whole (packed (a .order) (a .start) (a .size .0) (a .value) slot) slot (packed-length (a .order) (a .start) (a .size .0) (a .value) slot)) in
+    let stored : take (c .before .before .before .before .before .before .before .before .before .copy .result) (c .before .before .before .before .before .before .pack-slot .last .0) ≡ packed (a .order) (a .start) (a .size .0) (a .value) (a .frame .now) =
+    rw (whole, c .before .before .before .before .before .before .before .before .before .copy .ensures .1, c .before .before .before .before .before .before .before .before .before .copy .ensures .0, take-length (a .frame .now))
     (packed-front (a .order) (a .start) (a .size .0) (a .value) (a .frame .now) _) in
     rw (ok .holds, c .before .before .copy2 .ensures .1, stored)
     (refl, copied-back _ (a .frame .now) (packed-length (a .order) (a .start) (a .size .0) (a .value) (a .frame .now)))

@@ -5,11 +5,13 @@ use mathlib.Core.Path.{_≡_, ap, sym, _∙_}
 use borrow.Author.Tests.{not-true}
 use lib.ListN.{length}
 use lib.Seq.{take-length}
+use Rattle.memory.proofs.Laws.{part-whole}
 use Rattle.bits.specs.declared.Unpacking.{Unpacking}
 use Rattle.bits.specs.Frames.{isPlace}
 use Rattle.bits.proofs.Places.{position-twice}
 use Rattle.bits.proofs.Laws.{passed, unpacked-front}
 use borrow.Author.Needs.{needs}
+use native.Mathlib.Omega.{arith}
 use Rattle.bits.proofs.unpack.Statement.{statement}
 use Rattle.bits.proofs.unpack.Tie as tie
 
@@ -43,17 +45,20 @@ unpack-slot-requires : tie.Need-unpack-slot-requires
 unpack-slot-requires c κs =
     let a = c .before .before .before .before .before .before .before .before .args in
     let ok = passed (a .order) (a .start) (a .size .0) (length (a .frame .now)) _ (c .before .before .before .before .before .before .is-place .ensures) (c .before .before .before .before .before .if1 .left) in
-    (c .before .before .copy .kept .1 .0, rw (c .before .before .before .before .position .ensures) (ok .slot))
+    (omega (arith, c .before .before .copy .kept .1 .0), rw (c .before .before .before .before .position .ensures) (ok .slot))
 
 returns-2 : tie.Need-returns-2
 returns-2 c =
     let a = c .before .before .before .before .before .before .before .before .before .args in
     let ok = passed (a .order) (a .start) (a .size .0) (length (a .frame .now)) _ (c .before .before .before .before .before .before .before .is-place .ensures) (c .before .before .before .before .before .before .if1 .left) in
+    let slot = c .before .before .before .copy .last .1 .0 in
+    let eight : length slot ≡ 8 = c .before .before .before .copy .kept .1 .0 in
     rw (
       ok .holds,
       c .unpack-slot .ensures,
       c .before .before .before .before .before .position .ensures,
       position-twice (a .order) (a .start) (ok .begins),
+      part-whole 8 slot eight,
       c .before .before .before .copy .ensures .1,
       take-length (a .frame .now),
     )

@@ -2,14 +2,15 @@
 -- Assumes nothing.
 use mathlib.Core.Path.{_≡_, refl, sym, ap, _∙_}
 use mathlib.Core.List.{List, [], _∷_}
-use Prim.Native.Nat.{ℕ, _<_}
+use Prim.Native.Nat.{ℕ, _+_, _<_}
 use native.Mathlib.Omega.{arith}
 use borrow.Author.Needs.{needs}
 use lib.ListN.{getD}
 use Rattle.bits.specs.declared.Order.the-variants.{Big}
+use Rattle.bits.specs.Bits.{place}
 use Rattle.bits.specs.Slots.{position}
 use Rattle.bits.proofs.Basics.{tabulate, tabulate-at}
-use Rattle.bits.proofs.Places.{position-lt}
+use Rattle.bits.proofs.Places.{position-lt, position-twice, Along, along}
 use Rattle.bits.proofs.walk.position.Statement.{statement}
 use Rattle.bits.proofs.walk.position.Tie as tie
 
@@ -30,6 +31,15 @@ rule = refl
 
 entry : (p : ℕ) → p < 64 → getD bigWalk p 0 ≡ position Big p
 entry p h = ap (λ (l : List ℕ). getD l p 0) rule ∙ tabulate-at 64 (position Big) p h
+
+-- the list gives the big walk: from where the start bit stands in it, each entry is the next message bit's place
+pub gives-the-walk : (n i : ℕ) → n < 64 → getD bigWalk n 0 + i < 64 → place Big n i ≡ getD bigWalk (getD bigWalk n 0 + i) 0
+gives-the-walk n i h k =
+    let start : getD bigWalk n 0 ≡ position Big n = entry n h in
+    let inside : position Big n + i < 64 = omega arith in
+    let met : Along Big n i = along Big n i h inside in
+    sym (position-twice Big (place Big n i) (met .inside)) ∙ ap (position Big) (met .at)
+    ∙ sym (entry (position Big n + i) inside) ∙ ap (λ (p : ℕ). getD bigWalk (p + i) 0) (sym start)
 
 array-read-met : tie.Need-array-read-met
 array-read-met c = search needs

@@ -1,7 +1,8 @@
 -- `bits::word::swap_bytes` meets its contract: the bytes, taken from the low end, are put at the high end.
 -- Assumes nothing.
 use native.Mathlib.Omega.{arith}
-use Rattle.bits.specs.Slots.{swapped, value, bytesOf}
+use Rattle.memory.specs.Bytes.{value, bytesOf}
+use Rattle.bits.specs.Slots.{swapped}
 use borrow.Author.Needs.{needs}
 use Rattle.bits.proofs.word.swap_bytes.Statement.{statement}
 use Rattle.bits.proofs.word.swap_bytes.Tie as tie

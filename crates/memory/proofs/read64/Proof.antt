@@ -1,14 +1,31 @@
--- `bits::word::load` meets its contract: each partial sum is a number of as many bytes as it has taken.
+-- `memory::read64` meets its contract.
 -- Assumes nothing.
+use Rattle.memory.proofs.Laws.{get-eight}
 use native.Mathlib.Omega.{arith}
-use mathlib.Core.Path.{_≡_}
-use native.Mathlib.Nat.{le-of-eq}
-use lib.ListN.{drop}
-use Rattle.bits.specs.Slots.{value}
-use Rattle.bits.proofs.Frames.{value-step, value-past}
 use borrow.Author.Needs.{needs}
-use Rattle.bits.proofs.word.load.Statement.{statement}
-use Rattle.bits.proofs.word.load.Tie as tie
+use Rattle.memory.proofs.read64.Statement.{statement}
+use Rattle.memory.proofs.read64.Tie as tie
+
+add-b : tie.Need-add-b
+add-b c = search needs
+
+add-c : tie.Need-add-c
+add-c c = search needs
+
+add-d : tie.Need-add-d
+add-d c = search needs
+
+add-e : tie.Need-add-e
+add-e c = search needs
+
+add-f : tie.Need-add-f
+add-f c = search needs
+
+add-g : tie.Need-add-g
+add-g c = search needs
+
+add-h : tie.Need-add-h
+add-h c = search needs
 
 shared-slice-read-wide : tie.Need-shared-slice-read-wide
 shared-slice-read-wide c = search needs
@@ -22,11 +39,11 @@ shared-slice-read-wide-2 c = search needs
 wide-requires-2 : tie.Need-wide-requires-2
 wide-requires-2 c κs = search needs
 
-mul-g : tie.Need-mul-g
-mul-g c = omega arith
+mul-y : tie.Need-mul-y
+mul-y c = search needs
 
-add-g : tie.Need-add-g
-add-g c = omega arith
+add-y : tie.Need-add-y
+add-y c = search needs
 
 shared-slice-read-wide-3 : tie.Need-shared-slice-read-wide-3
 shared-slice-read-wide-3 c = search needs
@@ -34,11 +51,11 @@ shared-slice-read-wide-3 c = search needs
 wide-requires-3 : tie.Need-wide-requires-3
 wide-requires-3 c κs = search needs
 
-mul-f : tie.Need-mul-f
-mul-f c = omega arith
+mul-x : tie.Need-mul-x
+mul-x c = search needs
 
-add-f : tie.Need-add-f
-add-f c = omega arith
+add-x : tie.Need-add-x
+add-x c = search needs
 
 shared-slice-read-wide-4 : tie.Need-shared-slice-read-wide-4
 shared-slice-read-wide-4 c = search needs
@@ -46,11 +63,11 @@ shared-slice-read-wide-4 c = search needs
 wide-requires-4 : tie.Need-wide-requires-4
 wide-requires-4 c κs = search needs
 
-mul-e : tie.Need-mul-e
-mul-e c = omega arith
+mul-w : tie.Need-mul-w
+mul-w c = search needs
 
-add-e : tie.Need-add-e
-add-e c = omega arith
+add-w : tie.Need-add-w
+add-w c = search needs
 
 shared-slice-read-wide-5 : tie.Need-shared-slice-read-wide-5
 shared-slice-read-wide-5 c = search needs
@@ -58,11 +75,11 @@ shared-slice-read-wide-5 c = search needs
 wide-requires-5 : tie.Need-wide-requires-5
 wide-requires-5 c κs = search needs
 
-mul-d : tie.Need-mul-d
-mul-d c = omega arith
+mul-v : tie.Need-mul-v
+mul-v c = search needs
 
-add-d : tie.Need-add-d
-add-d c = omega arith
+add-v : tie.Need-add-v
+add-v c = search needs
 
 shared-slice-read-wide-6 : tie.Need-shared-slice-read-wide-6
 shared-slice-read-wide-6 c = search needs
@@ -70,11 +87,11 @@ shared-slice-read-wide-6 c = search needs
 wide-requires-6 : tie.Need-wide-requires-6
 wide-requires-6 c κs = search needs
 
-mul-c : tie.Need-mul-c
-mul-c c = omega arith
+mul-u : tie.Need-mul-u
+mul-u c = search needs
 
-add-c : tie.Need-add-c
-add-c c = omega arith
+add-u : tie.Need-add-u
+add-u c = search needs
 
 shared-slice-read-wide-7 : tie.Need-shared-slice-read-wide-7
 shared-slice-read-wide-7 c = search needs
@@ -82,11 +99,11 @@ shared-slice-read-wide-7 c = search needs
 wide-requires-7 : tie.Need-wide-requires-7
 wide-requires-7 c κs = search needs
 
-mul-b : tie.Need-mul-b
-mul-b c = omega arith
+mul-t : tie.Need-mul-t
+mul-t c = search needs
 
-add-b : tie.Need-add-b
-add-b c = omega arith
+add-t : tie.Need-add-t
+add-t c = search needs
 
 shared-slice-read-wide-8 : tie.Need-shared-slice-read-wide-8
 shared-slice-read-wide-8 c = search needs
@@ -95,48 +112,51 @@ wide-requires-8 : tie.Need-wide-requires-8
 wide-requires-8 c κs = search needs
 
 mul-result : tie.Need-mul-result
-mul-result c = omega arith
+mul-result c = search needs
 
 add-result : tie.Need-add-result
-add-result c = omega arith
+add-result c = search needs
 
 returns : tie.Need-returns
-returns c =
-    let f = c .before .before .before .before .before .before .before .before .before .before .before .before .before .before .before .before .before .args .slot .now in
-    let end : value (drop 8 f) ≡ 0 = value-past f 8 (le-of-eq (c .before .before .before .before .before .before .before .before .before .before .before .before .before .before .before .before .before .pre)) in
-    omega
-    (arith, value-step f 0, value-step f 1, value-step f 2, value-step f 3, value-step f 4, value-step f 5, value-step f 6, value-step f 7)
+returns c = omega (arith, get-eight (c .before .before .before .before .before .before .before .before .before .before .before .before .before .before .before .before .before .args .at) (c .before .before .before .before .before .before .before .before .before .before .before .before .before .before .before .before .before .args .m .now))
 
-pub load-spec : {M : Type 1} → statement M
-load-spec =
+pub read64-spec : {M : Type 1} → statement M
+read64-spec =
     tie.close
     (tie.spec
+    add-b
+    add-c
+    add-d
+    add-e
+    add-f
+    add-g
+    add-h
     shared-slice-read-wide
     wide-requires
     shared-slice-read-wide-2
     wide-requires-2
-    mul-g
-    add-g
+    mul-y
+    add-y
     shared-slice-read-wide-3
     wide-requires-3
-    mul-f
-    add-f
+    mul-x
+    add-x
     shared-slice-read-wide-4
     wide-requires-4
-    mul-e
-    add-e
+    mul-w
+    add-w
     shared-slice-read-wide-5
     wide-requires-5
-    mul-d
-    add-d
+    mul-v
+    add-v
     shared-slice-read-wide-6
     wide-requires-6
-    mul-c
-    add-c
+    mul-u
+    add-u
     shared-slice-read-wide-7
     wide-requires-7
-    mul-b
-    add-b
+    mul-t
+    add-t
     shared-slice-read-wide-8
     wide-requires-8
     mul-result

@@ -1,0 +1,115 @@
+-- Laws of `value`, `bytesOf`, `get`, `part` and `replaced`.
+-- Assumes nothing.
+use mathlib.Core.Logic.{_⊎_, inl, inr, ⊎-elim}
+use mathlib.Core.Path.{_≡_, refl, sym, ap, _∙_}
+use mathlib.Core.List.{List, [], _∷_, _++_, append-assoc, append-nil}
+use Prim.Native.Nat.{ℕ, zero, suc, _+_, _-_, _*_, _/_, _%_, _^_, _≤_, _<_}
+use native.Mathlib.Nat.{not-suc-le-zero, le-of-suc-le-suc}
+use native.Mathlib.Decide.{decLt}
+use native.Mathlib.Numerals.{add-one}
+use native.Mathlib.Omega.{arith}
+use lib.ListN.{drop-of-length-le, length, getD, take, drop, length-take, length-drop, length-append, List·getD-append, List·getD-eq-default}
+use lib.Seq.{sets, sets-eq, take-nil, take-all, take-at, drop-at, length-take-le, getD-take, getD-drop, getD-append-add}
+use Rattle.memory.specs.Bytes.{Bytes, value, bytesOf, part, get, replaced}
+
+pub lt-or-le : (a b : ℕ) → (a < b) ⊎ (b ≤ a)
+lt-or-le a b = elim (decLt a b) [ yes h ↦ inl h | no h ↦ inr (omega arith) ]
+
+-- a number is its first byte and 256 times the rest
+pub get-step : (k at : ℕ) (m : List ℕ) → get (suc k) at m ≡ getD m at 0 + 256 * get k (at + 1) m
+unfolding get part value
+get-step k at m = rw (add-one at) (go at m)
+  where
+    go : (at : ℕ) (m : List ℕ) → value (take (suc k) (drop at m)) ≡ getD m at 0 + 256 * value (take k (drop (suc at) m))
+    go zero [] = rw (take-nil k)
+    go zero (b ∷ m) = refl
+    go (suc at) [] = rw (take-nil k)
+    go (suc at) (b ∷ m) = go at m
+
+pub get-none : (at : ℕ) (m : List ℕ) → get 0 at m ≡ 0
+unfolding get part value
+get-none at m = refl
+
+pub get-one : (at : ℕ) (m : List ℕ)
+    → get 1 at m ≡ getD m at 0
+get-one at m =
+    omega (arith, get-none (at + 1) m, get-step 0 at m)
+
+pub get-two : (at : ℕ) (m : List ℕ)
+    → get 2 at m ≡ getD m at 0 + 256 * (getD m (at + 1) 0)
+get-two at m =
+    omega (arith, get-none (at + 1 + 1) m, get-step 1 at m, get-step 0 (at + 1) m)
+
+pub get-four : (at : ℕ) (m : List ℕ)
+    → get 4 at m ≡ getD m at 0 + 256 * (getD m (at + 1) 0 + 256 * (getD m (at + 1 + 1) 0 + 256 * (getD m (at + 1 + 1 + 1) 0)))
+get-four at m =
+    omega (arith, get-none (at + 1 + 1 + 1 + 1) m, get-step 3 at m, get-step 2 (at + 1) m, get-step 1 (at + 1 + 1) m, get-step 0 (at + 1 + 1 + 1) m)
+
+pub get-eight : (at : ℕ) (m : List ℕ)
+    → get 8 at m ≡ getD m at 0 + 256 * (getD m (at + 1) 0 + 256 * (getD m (at + 1 + 1) 0 + 256 * (getD m (at + 1 + 1 + 1) 0 + 256 * (getD m (at + 1 + 1 + 1 + 1) 0 + 256 * (getD m (at + 1 + 1 + 1 + 1 + 1) 0 + 256 * (getD m (at + 1 + 1 + 1 + 1 + 1 + 1) 0 + 256 * (getD m (at + 1 + 1 + 1 + 1 + 1 + 1 + 1) 0)))))))
+get-eight at m =
+    omega (arith, get-none (at + 1 + 1 + 1 + 1 + 1 + 1 + 1 + 1) m, get-step 7 at m, get-step 6 (at + 1) m, get-step 5 (at + 1 + 1) m, get-step 4 (at + 1 + 1 + 1) m, get-step 3 (at + 1 + 1 + 1 + 1) m, get-step 2 (at + 1 + 1 + 1 + 1 + 1) m, get-step 1 (at + 1 + 1 + 1 + 1 + 1 + 1) m, get-step 0 (at + 1 + 1 + 1 + 1 + 1 + 1 + 1) m)
+
+pub bytesOf-length : (k x : ℕ) → length (bytesOf k x) ≡ k
+unfolding bytesOf
+bytesOf-length zero x = refl
+bytesOf-length (suc k) x = ap suc (bytesOf-length k (x / 256))
+
+pub part-length : (at k : ℕ) (m : List ℕ) → at + k ≤ length m → length (part at k m) ≡ k
+unfolding part
+part-length at k m h = simp (length-take, length-drop) (omega arith)
+
+pub part-bytes : (at k : ℕ) (m : List ℕ) → Bytes m → Bytes (part at k m)
+unfolding part
+part-bytes at k m bs i =
+    ⊎-elim
+    (λ h. rw (getD-take k (drop at m) i 0 h, getD-drop at m i 0) (bs (at + i)))
+    (λ (h : k ≤ i).
+    let past : length (take k (drop at m)) ≤ i = simp (length-take) (omega arith) in
+    omega (arith, List·getD-eq-default (take k (drop at m)) 0 past))
+    (lt-or-le i k)
+
+pub replaced-length : (at : ℕ) (f m : List ℕ) → at + length f ≤ length m → length (replaced at f m) ≡ length m
+unfolding replaced
+replaced-length at f m h = simp (length-append, length-take, length-drop) (omega arith)
+
+-- a run of stores replaces a part
+pub sets-replaced : (at : ℕ) (f m : List ℕ) → at + length f ≤ length m → sets m at f ≡ replaced at f m
+unfolding replaced
+sets-replaced at f m h = sets-eq f m at h ∙ append-assoc (take at m) f (drop (at + length f) m)
+
+-- what was put there is there
+pub part-replaced : (at : ℕ) (f m : List ℕ) → at + length f ≤ length m → part at (length f) (replaced at f m) ≡ f
+unfolding part replaced
+part-replaced at f m h =
+    let front : length (take at m) ≡ at = length-take-le at m (omega arith) in
+    rw (drop-at (take at m) (f ++ drop (at + length f) m) at front) (take-at f (drop (at + length f) m) (length f) refl)
+
+-- every byte outside is as it was
+pub replaced-outside : (at : ℕ) (f m : List ℕ) (i : ℕ) → at + length f ≤ length m → (i < at) ⊎ (at + length f ≤ i)
+    → getD (replaced at f m) i 0 ≡ getD m i 0
+unfolding replaced
+replaced-outside at f m i h side =
+    let front : length (take at m) ≡ at = length-take-le at m (omega arith) in
+    ⊎-elim
+    (λ (below : i < at).
+    List·getD-append (take at m) (f ++ drop (at + length f) m) 0 i (omega (arith, front)) ∙ getD-take at m i 0 below)
+    (λ (above : at + length f ≤ i).
+    let there : length (take at m) + (length f + (i - (at + length f))) ≡ i = omega (arith, front) in
+    let same : at + length f + (i - (at + length f)) ≡ i = omega arith in
+    rw there at (getD-append-add (take at m) (f ++ drop (at + length f) m) (length f + (i - (at + length f))) 0)
+    ∙ getD-append-add f (drop (at + length f) m) (i - (at + length f)) 0
+    ∙ getD-drop (at + length f) m (i - (at + length f)) 0 ∙ ap (λ (j : ℕ). getD m j 0) same)
+    side
+
+-- the whole of a list
+pub part-whole : (k : ℕ) (m : List ℕ) → length m ≡ k → part 0 k m ≡ m
+unfolding part
+part-whole k m e = take-all k m (omega arith)
+
+pub replaced-whole : (f m : List ℕ) → length f ≡ length m → replaced 0 f m ≡ f
+unfolding replaced
+replaced-whole f m e =
+    let past : length m ≤ 0 + length f = omega arith in
+    let all : drop (0 + length f) m ≡ [] = drop-of-length-le m past in
+    rw all (append-nil f)

@@ -1,0 +1,92 @@
+// Little-endian numbers in lent bytes. Every caller has checked that the bytes are there.
+ghost use mathlib.Core.Path.{_≡_};
+ghost use Prim.Native.Nat.{_+_, _≤_, _<_, _^_};
+ghost use lib.ListN.{length};
+ghost use Rattle.memory.specs.Bytes.{bytesOf, get, replaced};
+
+fn wide(x: u8) -> u64
+    ensures { λ r. ⌜ (r ≡ x) × (r < 256) ⌝ }
+{
+    x as u64
+}
+
+// The byte at `at`.
+pub fn read8(m: &[u8], at: usize) -> u32
+    requires { ⌜ at + 1 ≤ length (now m) ⌝ }
+    ensures { λ r. ⌜ (r ≡ get 1 at (now (m .entry))) × (r < 256) ⌝ }
+{
+    m[at] as u32
+}
+
+// The two bytes from `at` on, as a number.
+pub fn read16(m: &[u8], at: usize) -> u32
+    requires { ⌜ at + 2 ≤ length (now m) ⌝ }
+    ensures { λ r. ⌜ (r ≡ get 2 at (now (m .entry))) × (r < 2 ^ 16) ⌝ }
+{
+    let b = at + 1;
+    (wide(m[at]) + 256 * wide(m[b])) as u32
+}
+
+// The four bytes from `at` on, as a number.
+pub fn read32(m: &[u8], at: usize) -> u32
+    requires { ⌜ at + 4 ≤ length (now m) ⌝ }
+    ensures { λ r. ⌜ r ≡ get 4 at (now (m .entry)) ⌝ }
+{
+    let b = at + 1;
+    let c = b + 1;
+    let d = c + 1;
+    let z = wide(m[d]);
+    let y = wide(m[c]) + 256 * z;
+    let x = wide(m[b]) + 256 * y;
+    (wide(m[at]) + 256 * x) as u32
+}
+
+// The eight bytes from `at` on, as a number.
+pub fn read64(m: &[u8], at: usize) -> u64
+    requires { ⌜ at + 8 ≤ length (now m) ⌝ }
+    ensures { λ r. ⌜ r ≡ get 8 at (now (m .entry)) ⌝ }
+{
+    let b = at + 1;
+    let c = b + 1;
+    let d = c + 1;
+    let e = d + 1;
+    let f = e + 1;
+    let g = f + 1;
+    let h = g + 1;
+    let z = wide(m[h]);
+    let y = wide(m[g]) + 256 * z;
+    let x = wide(m[f]) + 256 * y;
+    let w = wide(m[e]) + 256 * x;
+    let v = wide(m[d]) + 256 * w;
+    let u = wide(m[c]) + 256 * v;
+    let t = wide(m[b]) + 256 * u;
+    wide(m[at]) + 256 * t
+}
+
+// Puts a number into the eight bytes from `at` on.
+pub fn write64(m: &mut [u8], at: usize, x: u64)
+    requires { ⌜ at + 8 ≤ length (now m) ⌝ }
+    ensures { λ _. ⌜ now (m .exit) ≡ replaced at (bytesOf 8 x) (now (m .entry)) ⌝ }
+{
+    let b = at + 1;
+    let c = b + 1;
+    let d = c + 1;
+    let e = d + 1;
+    let f = e + 1;
+    let g = f + 1;
+    let h = g + 1;
+    let t = x / 256;
+    let u = t / 256;
+    let v = u / 256;
+    let w = v / 256;
+    let y = w / 256;
+    let z = y / 256;
+    m[at] = (x % 256) as u8;
+    m[b] = (t % 256) as u8;
+    m[c] = (u % 256) as u8;
+    m[d] = (v % 256) as u8;
+    m[e] = (w % 256) as u8;
+    m[f] = (y % 256) as u8;
+    m[g] = (z % 256) as u8;
+    m[h] = (z / 256 % 256) as u8;
+}
