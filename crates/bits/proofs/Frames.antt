@@ -9,7 +9,7 @@ use native.Mathlib.Omega.{arith}
 use lib.ListN.{length, getD, take}
 use Rattle.bits.specs.Bits.{bit, number, frameBit, frame}
 use Rattle.memory.specs.Bytes.{Bytes, value, bytesOf}
-use Rattle.memory.proofs.Laws.{lt-or-le}
+use Rattle.memory.proofs.Tests.{lt-or-le}
 use Rattle.bits.proofs.Numbers.{bit-lt, bit-of-zero, bit-low, bit-high, bit-mod, bit-div, number-ext, number-bit, number-lt, number-bits}
 
 pub frameBit-lt : (f : List ℕ) (p : ℕ) → frameBit f p < 2

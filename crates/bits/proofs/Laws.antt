@@ -12,10 +12,10 @@ use lib.Dec.{leb, ltb, eqb}
 use lib.ListN.{length, getD, take, length-append, List·getD-append}
 use Rattle.memory.specs.Bytes.{Bytes}
 use Rattle.bits.specs.declared.Order.{Order}
-use Rattle.bits.specs.Bits.{pick, bit, number, frameBit, frame, place, room, written, packed, unpacked}
+use Rattle.bits.specs.Bits.{bit, number, frameBit, frame, place, room, written, packed, unpacked}
 use Rattle.bits.specs.Slots.{position, InSlot}
 use Rattle.bits.specs.Frames.{isPlace}
-use Rattle.bits.proofs.Basics.{eq-or-ne, and-split}
+use Rattle.memory.proofs.Tests.{eq-or-ne, and-split}
 use Rattle.bits.proofs.Numbers.{bit-lt, number-ext, number-lt, number-bits}
 use Rattle.bits.proofs.Frames.{frameBit-lt, frame-length, frame-bit, frame-bytes, frame-ext, frame-take, value-bit, bytesOf-frame}
 use Rattle.bits.proofs.Places.{position-lt, position-twice, Along, along, Run, run, room-slot, place-inside}

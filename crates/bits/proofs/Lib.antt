@@ -1,4 +1,3 @@
-pub mod Basics
 pub mod Numbers
 pub mod Frames
 pub mod Places
@@ -6,3 +5,4 @@ pub mod Slots
 pub mod Laws
 pub mod Words
 pub mod Cases
+pub mod Masks

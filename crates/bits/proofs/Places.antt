@@ -8,9 +8,9 @@ use borrow.Author.Tests.{ltb-true, leb-true, eqb-true, eqb-false, lt-ltb, le-leb
 use lib.Dec.{leb, ltb, eqb}
 use Rattle.bits.specs.declared.Order.{Order}
 use Rattle.bits.specs.declared.Order.the-variants.{Little, Big}
-use Rattle.bits.specs.Bits.{pick, after, place, room}
+use Rattle.bits.specs.Bits.{after, place, room}
 use Rattle.bits.specs.Slots.{position}
-use Rattle.bits.proofs.Basics.{and-split}
+use Rattle.memory.proofs.Tests.{and-split}
 
 -- Little: message bit i goes to bit n + i.
 pub place-little : (n i : ℕ) → place Little n i ≡ n + i
@@ -80,6 +80,12 @@ run Big start size some e =
     let h : start < 64 = ltb-true _ _ (and-split _ (leb size (8 * (start / 8 + 1) - start % 8)) e .0) in
     let k : size ≤ 8 * (start / 8 + 1) - start % 8 = leb-true _ _ (and-split (ltb start 64) _ e .1) in
     record { begins = h; ends = omega arith }
+
+-- the bit that stands i places along the walk from the start
+pub place-at : (o : Order) (start size i : ℕ) → Run o start size → i < size → position o (position o start + i) ≡ place o start i
+place-at o start size i r h =
+    let a : Along o start i = along o start i (r .begins) (omega (arith, r .ends)) in
+    ap (position o) (sym (a .at)) ∙ position-twice o (place o start i) (a .inside)
 
 -- room in a shorter I-PDU is room in a slot, and then each bit lies in the I-PDU
 pub room-slot : (o : Order) (start size L : ℕ) → L ≤ 8 → room o start size L ≡ true → room o start size 8 ≡ true

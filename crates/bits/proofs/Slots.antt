@@ -15,7 +15,7 @@ use Rattle.bits.specs.declared.Order.{Order}
 use Rattle.bits.specs.declared.Order.the-variants.{Little, Big}
 use Rattle.bits.specs.Bits.{bit, number, frameBit, frame}
 use Rattle.bits.specs.Slots.{position, swapped, turned, field, withField}
-use Rattle.memory.proofs.Laws.{lt-or-le}
+use Rattle.memory.proofs.Tests.{lt-or-le}
 use Rattle.bits.proofs.Numbers.{bit-lt, bit-low, bit-high, bit-mod, bit-div, number-ext, number-bits}
 use Rattle.bits.proofs.Frames.{frame-bit, frame-length, frame-bytes, value-bit, bytesOf-frame}
 use Rattle.bits.proofs.Places.{position-lt}
@@ -53,11 +53,14 @@ reverse-bytes f bs i =
     omega (arith, List·getD-eq-default (reverse f) 0 past))
     (lt-or-le i (length f))
 
+pub turned-bytes : (w : ℕ) → Bytes (reverse (bytesOf 8 w))
+turned-bytes w = reverse-bytes (bytesOf 8 w) (rw bytesOf-frame (frame-bytes 8 (bit w) (bit-lt w)))
+
 pub turned-bit : (o : Order) (w p : ℕ) → p < 64 → bit (turned o w) p ≡ bit w (position o p)
 unfolding turned swapped
 turned-bit Little w p h = unfold position in refl
 turned-bit Big w p h =
-    value-bit (reverse (bytesOf 8 w)) (reverse-bytes (bytesOf 8 w) (rw bytesOf-frame (frame-bytes 8 (bit w) (bit-lt w)))) p
+    value-bit (reverse (bytesOf 8 w)) (turned-bytes w) p
     ∙ reverse-bit (bytesOf 8 w) (ap length (bytesOf-frame 8 w) ∙ frame-length 8 (bit w)) p h
     ∙ ap (λ (f : List ℕ). frameBit f (position Big p)) (bytesOf-frame 8 w)
     ∙ frame-bit 8 (bit w) (bit-lt w) (position Big p) (position-lt Big p h)

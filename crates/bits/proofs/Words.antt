@@ -10,10 +10,10 @@ use Rattle.memory.specs.Bytes.{Bytes, value, bytesOf}
 use Rattle.bits.specs.declared.Order.{Order}
 use Rattle.bits.specs.Bits.{bit, frameBit, frame, place, written, packed, unpacked}
 use Rattle.bits.specs.Slots.{position, turned, field, withField, InSlot}
-use Rattle.memory.proofs.Laws.{lt-or-le}
+use Rattle.memory.proofs.Tests.{lt-or-le}
 use Rattle.bits.proofs.Numbers.{number-ext}
 use Rattle.bits.proofs.Frames.{frame-ext, value-bit, bytesOf-frame}
-use Rattle.bits.proofs.Places.{position-lt, position-twice, Along, along, Run}
+use Rattle.bits.proofs.Places.{position-lt, position-twice, along, place-at, Run}
 use Rattle.bits.proofs.Slots.{turned-bit, field-number, with-field-in, with-field-below, with-field-above}
 use Rattle.bits.proofs.Laws.{written-own, written-other}
 
@@ -25,18 +25,12 @@ module _ (o : Order) (start size : ℕ) (f : List ℕ) (bytes : Bytes f) (eight 
   unfolding word
   word-bit p h = turned-bit o (value f) p h ∙ value-bit f bytes (position o p)
 
-  -- the bit that stands i places along the walk from the start
-  at-place : (i : ℕ) → i < size → position o (position o start + i) ≡ place o start i
-  at-place i h =
-      let a : Along o start i = along o start i (here .begins) (omega (arith, here .ends)) in
-      ap (position o) (sym (a .at)) ∙ position-twice o (place o start i) (a .inside)
-
   run-unpacked : field (turned o (value f)) (position o start) size ≡ unpacked o start size f
   unfolding unpacked word
   run-unpacked =
       field-number _ _ _
       ∙ number-ext size _ _
-      (λ i h. word-bit (position o start + i) (omega (arith, here .ends)) ∙ ap (frameBit f) (at-place i h))
+      (λ i h. word-bit (position o start + i) (omega (arith, here .ends)) ∙ ap (frameBit f) (place-at o start size i here h))
 
   slot-bit : (v p : ℕ) → p < 64 → bit (withField word (position o start) size v) (position o p) ≡ written o start v f size p
   slot-bit v p h =
@@ -58,7 +52,7 @@ module _ (o : Order) (start size : ℕ) (f : List ℕ) (bytes : Bytes f) (eight 
 
       own : (i : ℕ) → at ≡ from + i → i < size → bit (withField word from size v) at ≡ written o start v f size p
       own i e k =
-          let met : place o start i ≡ p = sym (at-place i k) ∙ ap (position o) (sym e) ∙ position-twice o p h in
+          let met : place o start i ≡ p = sym (place-at o start size i here k) ∙ ap (position o) (sym e) ∙ position-twice o p h in
           ap (bit (withField word from size v)) e ∙ with-field-in word from size v i k
           ∙ sym (written-own o start v f size i here k) ∙ ap (written o start v f size) met
 

@@ -1,16 +1,13 @@
 -- Document 01, "Bits", in its order: bit numbers, places, room, packing, unpacking.
 -- Assumes nothing.
-use mathlib.Core.Bool.{Bool, true, false, _&&_}
+use mathlib.Core.Bool.{Bool, _&&_}
 use mathlib.Core.List.{List, [], _∷_}
 use Prim.Native.Nat.{ℕ, zero, suc, _+_, _-_, _*_, _/_, _%_, _^_}
 use lib.Dec.{leb, ltb, eqb}
 use lib.ListN.{length, getD}
+use Rattle.memory.specs.Search.{pick, any}
 use Rattle.bits.specs.declared.Order.{Order}
 use Rattle.bits.specs.declared.Order.the-variants.{Little, Big}
-
-abbrev pub pick {ℓ} : {A : Type ℓ} → Bool → A → A → A
-pick true a b = a
-pick false a b = b
 
 -- bit k of a number
 unfoldable pub bit : ℕ → ℕ → ℕ
@@ -57,3 +54,7 @@ packed o start size v f = frame (length f) (written o start v f size)
 -- unpacking fills high bits with 0
 unfoldable pub unpacked : Order → ℕ → ℕ → List ℕ → ℕ
 unpacked o start size f = number size (λ i. frameBit f (place o start i))
+
+-- the bits of its I-PDU that a message owns: those that its message bits go to
+unfoldable pub owns : Order → ℕ → ℕ → ℕ → Bool
+owns o start size p = any size (λ i. eqb (place o start i) p)

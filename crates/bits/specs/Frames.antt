@@ -5,10 +5,11 @@ use mathlib.Core.List.{List}
 use Prim.Native.Nat.{ℕ}
 use lib.Dec.{leb}
 use lib.ListN.{length}
+use Rattle.memory.specs.Search.{pick}
 use Rattle.bits.specs.declared.Order.{Order}
 use Rattle.bits.specs.declared.Packing.{Packing}
 use Rattle.bits.specs.declared.Unpacking.{Unpacking}
-use Rattle.bits.specs.Bits.{pick, room, packed, unpacked}
+use Rattle.bits.specs.Bits.{room, packed, unpacked}
 
 -- the place of a message is one of those that document 01 speaks of
 unfoldable pub isPlace : Order → ℕ → ℕ → ℕ → Bool

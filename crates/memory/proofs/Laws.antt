@@ -1,19 +1,16 @@
 -- Laws of `value`, `bytesOf`, `get`, `part` and `replaced`.
 -- Assumes nothing.
-use mathlib.Core.Logic.{_⊎_, inl, inr, ⊎-elim}
+use mathlib.Core.Logic.{_⊎_, ⊎-elim}
 use mathlib.Core.Path.{_≡_, refl, sym, ap, _∙_}
 use mathlib.Core.List.{List, [], _∷_, _++_, append-assoc, append-nil}
 use Prim.Native.Nat.{ℕ, zero, suc, _+_, _-_, _*_, _/_, _%_, _^_, _≤_, _<_}
 use native.Mathlib.Nat.{not-suc-le-zero, le-of-suc-le-suc}
-use native.Mathlib.Decide.{decLt}
 use native.Mathlib.Numerals.{add-one}
 use native.Mathlib.Omega.{arith}
 use lib.ListN.{drop-of-length-le, length, getD, take, drop, length-take, length-drop, length-append, List·getD-append, List·getD-eq-default}
 use lib.Seq.{sets, sets-eq, take-nil, take-all, take-at, drop-at, length-take-le, getD-take, getD-drop, getD-append-add}
+use Rattle.memory.proofs.Tests.{lt-or-le}
 use Rattle.memory.specs.Bytes.{Bytes, value, bytesOf, part, get, replaced}
-
-pub lt-or-le : (a b : ℕ) → (a < b) ⊎ (b ≤ a)
-lt-or-le a b = elim (decLt a b) [ yes h ↦ inl h | no h ↦ inr (omega arith) ]
 
 -- a number is its first byte and 256 times the rest
 pub get-step : (k at : ℕ) (m : List ℕ) → get (suc k) at m ≡ getD m at 0 + 256 * get k (at + 1) m

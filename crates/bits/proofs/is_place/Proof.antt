@@ -1,6 +1,6 @@
 -- `bits::is_place` meets its contract.
 -- Assumes nothing.
-use Rattle.bits.proofs.Basics.{and-false}
+use Rattle.memory.proofs.Tests.{and-false}
 use borrow.Author.Tests.{lt-leb}
 use lib.Dec.{leb}
 use Rattle.bits.specs.Frames.{isPlace}

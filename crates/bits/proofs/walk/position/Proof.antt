@@ -9,7 +9,7 @@ use lib.ListN.{getD}
 use Rattle.bits.specs.declared.Order.the-variants.{Big}
 use Rattle.bits.specs.Bits.{place}
 use Rattle.bits.specs.Slots.{position}
-use Rattle.bits.proofs.Basics.{tabulate, tabulate-at}
+use Rattle.memory.proofs.Tests.{tabulate, tabulate-at}
 use Rattle.bits.proofs.Places.{position-lt, position-twice, Along, along}
 use Rattle.bits.proofs.walk.position.Statement.{statement}
 use Rattle.bits.proofs.walk.position.Tie as tie

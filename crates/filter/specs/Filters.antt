@@ -1,0 +1,82 @@
+-- Document 01, "Filters": the filters by number, what passes, and the rules for a filter's constants in a table.
+-- Assumes nothing.
+use mathlib.Core.Bool.{Bool, true, false, not, _&&_}
+use mathlib.Core.List.{List, [], _∷_}
+use Prim.Native.Nat.{ℕ, _%_, _<_}
+use lib.Bits.{bitAnd}
+use lib.Dec.{leb, ltb, eqb}
+use lib.ListN.{getD}
+use Rattle.filter.specs.declared.Filter.{Filter}
+use Rattle.filter.specs.declared.Filter.the-variants.{Always, Never, MaskedNewEqualsX, MaskedNewDiffersX, NewIsEqual, NewIsDifferent, MaskedNewEqualsMaskedOld, MaskedNewDiffersMaskedOld, NewIsWithin, NewIsOutside, NewIsGreater, NewIsLessOrEqual, NewIsLess, NewIsGreaterOrEqual, OneEveryN}
+
+-- whether `new` passes, given old and the occurrence
+unfoldable pub passes : Filter → ℕ → ℕ → ℕ → Bool
+passes Always new old n = true
+passes Never new old n = false
+passes (MaskedNewEqualsX mask x) new old n = eqb (bitAnd new mask) x
+passes (MaskedNewDiffersX mask x) new old n = not (eqb (bitAnd new mask) x)
+passes NewIsEqual new old n = eqb new old
+passes NewIsDifferent new old n = not (eqb new old)
+passes (MaskedNewEqualsMaskedOld mask) new old n = eqb (bitAnd new mask) (bitAnd old mask)
+passes (MaskedNewDiffersMaskedOld mask) new old n = not (eqb (bitAnd new mask) (bitAnd old mask))
+passes (NewIsWithin min max) new old n = leb min new && leb new max
+passes (NewIsOutside min max) new old n = not (leb min new && leb new max)
+passes NewIsGreater new old n = ltb old new
+passes NewIsLessOrEqual new old n = leb new old
+passes NewIsLess new old n = ltb new old
+passes NewIsGreaterOrEqual new old n = leb old new
+passes (OneEveryN period offset) new old n = eqb (n % period) offset
+
+-- a period is at least 1
+abbrev pub HasPeriod : Filter → Type 0
+HasPeriod Always = Unit {0}
+HasPeriod Never = Unit {0}
+HasPeriod (MaskedNewEqualsX mask x) = Unit {0}
+HasPeriod (MaskedNewDiffersX mask x) = Unit {0}
+HasPeriod NewIsEqual = Unit {0}
+HasPeriod NewIsDifferent = Unit {0}
+HasPeriod (MaskedNewEqualsMaskedOld mask) = Unit {0}
+HasPeriod (MaskedNewDiffersMaskedOld mask) = Unit {0}
+HasPeriod (NewIsWithin min max) = Unit {0}
+HasPeriod (NewIsOutside min max) = Unit {0}
+HasPeriod NewIsGreater = Unit {0}
+HasPeriod NewIsLessOrEqual = Unit {0}
+HasPeriod NewIsLess = Unit {0}
+HasPeriod NewIsGreaterOrEqual = Unit {0}
+HasPeriod (OneEveryN period offset) = 0 < period
+
+-- the filters in the order of their numbers 0..14; c and d are the two constants of a table's record
+abbrev pub filters : ℕ → ℕ → List Filter
+filters c d =
+    Always ∷ Never
+    ∷ MaskedNewEqualsX c d ∷ MaskedNewDiffersX c d
+    ∷ NewIsEqual ∷ NewIsDifferent
+    ∷ MaskedNewEqualsMaskedOld c ∷ MaskedNewDiffersMaskedOld c
+    ∷ NewIsWithin c d ∷ NewIsOutside c d
+    ∷ NewIsGreater ∷ NewIsLessOrEqual ∷ NewIsLess ∷ NewIsGreaterOrEqual
+    ∷ OneEveryN c d ∷ []
+
+unfoldable pub filterOf : ℕ → ℕ → ℕ → Filter
+filterOf number c d = getD (filters c d) number Never
+
+-- a filter's constants: those that it does not use are zero; a period is 1..255, and its offset is below it
+abbrev pub constants : Filter → ℕ → ℕ → Bool
+constants Always c d = eqb c 0 && eqb d 0
+constants Never c d = eqb c 0 && eqb d 0
+constants (MaskedNewEqualsX mask x) c d = true
+constants (MaskedNewDiffersX mask x) c d = true
+constants NewIsEqual c d = eqb c 0 && eqb d 0
+constants NewIsDifferent c d = eqb c 0 && eqb d 0
+constants (MaskedNewEqualsMaskedOld mask) c d = eqb d 0
+constants (MaskedNewDiffersMaskedOld mask) c d = eqb d 0
+constants (NewIsWithin min max) c d = true
+constants (NewIsOutside min max) c d = true
+constants NewIsGreater c d = eqb c 0 && eqb d 0
+constants NewIsLessOrEqual c d = eqb c 0 && eqb d 0
+constants NewIsLess c d = eqb c 0 && eqb d 0
+constants NewIsGreaterOrEqual c d = eqb c 0 && eqb d 0
+constants (OneEveryN period offset) c d = leb 1 period && leb period 255 && ltb offset period
+
+-- a record's filter: its number is 0..14 and its constants are right
+unfoldable pub filterRight : ℕ → ℕ → ℕ → Bool
+filterRight number c d = leb number 14 && constants (filterOf number c d) c d

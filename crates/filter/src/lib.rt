@@ -1,0 +1,126 @@
+// Filters of message objects (document 01, "Filters"; document 001, table 1), under OSEK COM's names.
+ghost use mathlib.Core.Path.{_≡_};
+ghost use Prim.Native.Nat.{_+_, _%_};
+ghost use Rattle.filter.specs.Filters.{HasPeriod, passes, filterOf, constants, filterRight};
+
+// A filter with the constants that it needs.
+pub enum Filter {
+    Always,
+    Never,
+    MaskedNewEqualsX { mask: u32, x: u32 },
+    MaskedNewDiffersX { mask: u32, x: u32 },
+    NewIsEqual,
+    NewIsDifferent,
+    MaskedNewEqualsMaskedOld { mask: u32 },
+    MaskedNewDiffersMaskedOld { mask: u32 },
+    NewIsWithin { min: u32, max: u32 },
+    NewIsOutside { min: u32, max: u32 },
+    NewIsGreater,
+    NewIsLessOrEqual,
+    NewIsLess,
+    NewIsGreaterOrEqual,
+    OneEveryN { period: u32, offset: u32 },
+}
+
+// The filter of a number 0..14 in a table, with its two constants. Any other number is no filter of a right table; it gives
+// `Never`.
+pub fn filter_of(number: u32, first: u32, second: u32) -> Filter
+    ensures { λ r. ⌜ r ≡ filterOf number first second ⌝ }
+{
+    match number {
+        0 => Filter::Always,
+        1 => Filter::Never,
+        2 => Filter::MaskedNewEqualsX {
+            mask: first,
+            x: second,
+        },
+        3 => Filter::MaskedNewDiffersX {
+            mask: first,
+            x: second,
+        },
+        4 => Filter::NewIsEqual,
+        5 => Filter::NewIsDifferent,
+        6 => Filter::MaskedNewEqualsMaskedOld { mask: first },
+        7 => Filter::MaskedNewDiffersMaskedOld { mask: first },
+        8 => Filter::NewIsWithin {
+            min: first,
+            max: second,
+        },
+        9 => Filter::NewIsOutside {
+            min: first,
+            max: second,
+        },
+        10 => Filter::NewIsGreater,
+        11 => Filter::NewIsLessOrEqual,
+        12 => Filter::NewIsLess,
+        13 => Filter::NewIsGreaterOrEqual,
+        14 => Filter::OneEveryN {
+            period: first,
+            offset: second,
+        },
+        _ => Filter::Never,
+    }
+}
+
+// Whether a table's record may have this filter number with these two constants.
+pub fn filter_right(number: u32, first: u32, second: u32) -> bool
+    ensures { λ r. ⌜ r ≡ filterRight number first second ⌝ }
+{
+    let known = number <= 14;
+    known & constants_right(filter_of(number, first, second), first, second)
+}
+
+// Whether the filter's two constants are right: an unused one is zero.
+fn constants_right(filter: Filter, first: u32, second: u32) -> bool
+    ensures { λ r. ⌜ r ≡ constants filter first second ⌝ }
+{
+    let none = (first == 0) & (second == 0);
+    match filter {
+        Filter::MaskedNewEqualsX { mask: _, x: _ } => true,
+        Filter::MaskedNewDiffersX { mask: _, x: _ } => true,
+        Filter::MaskedNewEqualsMaskedOld { mask: _ } => second == 0,
+        Filter::MaskedNewDiffersMaskedOld { mask: _ } => second == 0,
+        Filter::NewIsWithin { min: _, max: _ } => true,
+        Filter::NewIsOutside { min: _, max: _ } => true,
+        Filter::OneEveryN { period, offset } => (1 <= period) & (period <= 255) & (offset < period),
+        Filter::Always => none,
+        Filter::Never => none,
+        Filter::NewIsEqual => none,
+        Filter::NewIsDifferent => none,
+        Filter::NewIsGreater => none,
+        Filter::NewIsLessOrEqual => none,
+        Filter::NewIsLess => none,
+        Filter::NewIsGreaterOrEqual => none,
+    }
+}
+
+// Whether `new` passes, after the last value that passed and so many filterings before.
+pub fn passes(filter: Filter, new: u32, old: u32, occurrence: u8) -> bool
+    requires { ⌜ HasPeriod filter ⌝ }
+    ensures { λ r. ⌜ r ≡ passes filter new old occurrence ⌝ }
+{
+    match filter {
+        Filter::Always => true,
+        Filter::Never => false,
+        Filter::MaskedNewEqualsX { mask, x } => new & mask == x,
+        Filter::MaskedNewDiffersX { mask, x } => new & mask != x,
+        Filter::NewIsEqual => new == old,
+        Filter::NewIsDifferent => new != old,
+        Filter::MaskedNewEqualsMaskedOld { mask } => new & mask == old & mask,
+        Filter::MaskedNewDiffersMaskedOld { mask } => new & mask != old & mask,
+        Filter::NewIsWithin { min, max } => (min <= new) & (new <= max),
+        Filter::NewIsOutside { min, max } => !((min <= new) & (new <= max)),
+        Filter::NewIsGreater => new > old,
+        Filter::NewIsLessOrEqual => new <= old,
+        Filter::NewIsLess => new < old,
+        Filter::NewIsGreaterOrEqual => new >= old,
+        Filter::OneEveryN { period, offset } => occurrence as u32 % period == offset,
+    }
+}
+
+// The occurrence after one more filtering, passed or not: from 255 it goes to 0.
+pub fn next_occurrence(occurrence: u8) -> u8
+    ensures { λ r. ⌜ r ≡ (occurrence + 1) % 256 ⌝ }
+{
+    std::num::wrapping_add_u8(occurrence, 1)
+}

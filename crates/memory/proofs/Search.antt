@@ -1,0 +1,118 @@
+-- Laws of `any`, `least` and `sum`: what a loop over records has shown.
+-- Assumes nothing.
+use mathlib.Core.Bool.{Bool, true, false, _||_}
+use mathlib.Core.Logic.{_⊎_, inl, inr, ⊎-elim}
+use mathlib.Core.Path.{_≡_, refl, sym, ap, _∙_}
+use Prim.Native.Nat.{ℕ, zero, suc, _+_, _≤_, _<_, zero-le, suc-le-suc}
+use native.Mathlib.Nat.{le-refl, le-of-suc-le-suc, not-suc-le-zero, le-of-lt}
+use native.Mathlib.Omega.{arith}
+use Rattle.memory.specs.Search.{pick, any, least, sum}
+use Rattle.memory.proofs.Tests.{lt-or-le, eq-or-ne, true-or-false, true-not-false, or-split}
+
+-- what holds of each number below n, and of n, holds of each below suc n
+pub below-suc {ℓ} : {P : ℕ → Type ℓ} {n : ℕ} → ((k : ℕ) → k < n → P k) → P n → (k : ℕ) → k < suc n → P k
+below-suc {P = P} {n = n} all here k h =
+    ⊎-elim (λ (e : k ≡ n). rw e here) (λ (ne : k ≡ n → ⊥). all k (omega arith)) (eq-or-ne k n)
+
+pub any-none : (n : ℕ) (f : ℕ → Bool) → ((k : ℕ) → k < n → f k ≡ false) → any n f ≡ false
+any-none zero f none = refl
+any-none (suc n) f none = rw (any-none n f (λ k h. none k (omega arith))) (none n (le-refl (suc n)))
+
+pub any-false : (n : ℕ) (f : ℕ → Bool) → any n f ≡ false → (k : ℕ) → k < n → f k ≡ false
+any-false zero f e k h = absurd (not-suc-le-zero h)
+any-false (suc n) f e k h =
+    let parts = or-split (any n f) (f n) e in
+    below-suc {P = λ k. f k ≡ false} (any-false n f (parts .0)) (parts .1) k h
+
+pub any-some : (n : ℕ) (f : ℕ → Bool) (k : ℕ) → k < n → f k ≡ true → any n f ≡ true
+any-some n f k h e = ⊎-elim (λ t. t) (λ t. absurd (true-not-false e (any-false n f t k h))) (true-or-false (any n f))
+
+pub any-ext : (n : ℕ) (f g : ℕ → Bool) → ((k : ℕ) → k < n → f k ≡ g k) → any n f ≡ any n g
+any-ext zero f g e = refl
+any-ext (suc n) f g e = rw (any-ext n f g (λ k h. e k (omega arith)), e n (le-refl (suc n)))
+
+pub least-none : (n : ℕ) (f : ℕ → Bool) → ((k : ℕ) → k < n → f k ≡ false) → least n f ≡ n
+least-none zero f none = refl
+least-none (suc n) f none =
+    rw (none 0 (suc-le-suc zero-le)) (ap suc (least-none n (λ k. f (suc k)) (λ k h. none (suc k) (suc-le-suc h))))
+
+pub least-at : (n : ℕ) (f : ℕ → Bool) (i : ℕ) → i < n → ((k : ℕ) → k < i → f k ≡ false) → f i ≡ true → least n f ≡ i
+least-at zero f i h none e = absurd (not-suc-le-zero h)
+least-at (suc n) f zero h none e = rw e
+least-at (suc n) f (suc i) h none e =
+    rw (none 0 (suc-le-suc zero-le))
+    (ap suc (least-at n (λ k. f (suc k)) i (le-of-suc-le-suc h) (λ k j. none (suc k) (suc-le-suc j)) e))
+
+-- either none has the test, or the least one has it and none before
+pub data Found (n : ℕ) (f : ℕ → Bool) : Type 0 where
+  nowhere : ((k : ℕ) → k < n → f k ≡ false) → Found n f
+  there : (i : ℕ) → i < n → ((k : ℕ) → k < i → f k ≡ false) → f i ≡ true → Found n f
+
+pub found : (n : ℕ) (f : ℕ → Bool) → Found n f
+found zero f = nowhere (λ k h. absurd (not-suc-le-zero h))
+found (suc n) f = go (found n f) (true-or-false (f n))
+  where
+    go : Found n f → (f n ≡ true) ⊎ (f n ≡ false) → Found (suc n) f
+    go (there i h none e) d = there i (omega arith) none e
+    go (nowhere none) (inl e) = there n (le-refl (suc n)) none e
+    go (nowhere none) (inr e) = nowhere (below-suc {P = λ k. f k ≡ false} none e)
+
+-- the least with either test is the least with the second among those below the least with the first
+pub least-or : (n : ℕ) (f g : ℕ → Bool) → least n (λ k. f k || g k) ≡ least (least n f) g
+least-or n f g = go (found n f)
+  where
+    or-true : (a b : Bool) → b ≡ true → (a || b) ≡ true
+    or-true true b e = refl
+    or-true false b e = e
+
+    or-false : (a b : Bool) → a ≡ false → (a || b) ≡ b
+    or-false true b e = let z : true ≡ false = e in cc
+    or-false false b e = refl
+
+    or-left : (a b : Bool) → a ≡ true → (a || b) ≡ true
+    or-left true b e = refl
+    or-left false b e = let z : false ≡ true = e in cc
+
+    under : (m : ℕ) → m ≤ n → ((k : ℕ) → k < m → f k ≡ false) → ((m ≡ n) ⊎ ((m < n) × (f m ≡ true))) → Found m g
+        → least n (λ k. f k || g k) ≡ least m g
+    under m le none end (there i h before e) =
+        least-at n (λ k. f k || g k) i (omega arith)
+        (λ k j. or-false (f k) (g k) (none k (omega arith)) ∙ before k j)
+        (or-true (f i) (g i) e)
+        ∙ sym (least-at m g i h before e)
+    under m le none end (nowhere without) =
+        ⊎-elim
+        (λ (all : m ≡ n).
+        least-none n (λ k. f k || g k)
+        (λ k h. or-false (f k) (g k) (none k (omega arith)) ∙ without k (omega arith))
+        ∙ sym all)
+        (λ here.
+        least-at n (λ k. f k || g k) m (here .0)
+        (λ k j. or-false (f k) (g k) (none k j) ∙ without k j)
+        (or-left (f m) (g m) (here .1)))
+        end
+        ∙ sym (least-none m g without)
+
+    go : Found n f → least n (λ k. f k || g k) ≡ least (least n f) g
+    go (there i h none e) =
+        under i (le-of-lt h) none (inr (h, e)) (found i g) ∙ ap (λ (m : ℕ). least m g) (sym (least-at n f i h none e))
+    go (nowhere none) =
+        under n (le-refl n) none (inl refl) (found n g) ∙ ap (λ (m : ℕ). least m g) (sym (least-none n f none))
+
+pub least-le : (n : ℕ) (f : ℕ → Bool) → least n f ≤ n
+least-le n f = go (found n f)
+  where
+    go : Found n f → least n f ≤ n
+    go (there i j none e) = omega (arith, least-at n f i j none e)
+    go (nowhere none) = omega (arith, least-none n f none)
+
+pub least-before : (n : ℕ) (f : ℕ → Bool) (k : ℕ) → k < least n f → f k ≡ false
+least-before n f k h = go (found n f)
+  where
+    go : Found n f → f k ≡ false
+    go (there i j none e) = none k (omega (arith, least-at n f i j none e))
+    go (nowhere none) = none k (omega (arith, least-none n f none))
+
+pub least-ext : (n : ℕ) (f g : ℕ → Bool) → ((k : ℕ) → f k ≡ g k) → least n f ≡ least n g
+least-ext zero f g e = refl
+least-ext (suc n) f g e = rw (e 0, least-ext n (λ k. f (suc k)) (λ k. g (suc k)) (λ k. e (suc k)))

@@ -1,0 +1,23 @@
+-- Choices, searches and sums over the numbers below a bound: what loops over records are held to.
+-- Assumes nothing.
+use mathlib.Core.Bool.{Bool, true, false, _||_}
+use Prim.Native.Nat.{ℕ, zero, suc, _+_}
+
+abbrev pub pick {ℓ} : {A : Type ℓ} → Bool → A → A → A
+pick true a b = a
+pick false a b = b
+
+-- some number below n has the test
+abbrev pub any : ℕ → (ℕ → Bool) → Bool
+any zero f = false
+any (suc n) f = any n f || f n
+
+-- the lowest number below n that has the test, or n where none has
+abbrev pub least : ℕ → (ℕ → Bool) → ℕ
+least zero f = 0
+least (suc n) f = pick (f 0) 0 (suc (least n (λ k. f (suc k))))
+
+-- f 0 + f 1 + .. + f (n - 1)
+abbrev pub sum : ℕ → (ℕ → ℕ) → ℕ
+sum zero f = 0
+sum (suc n) f = sum n f + f n

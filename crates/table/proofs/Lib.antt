@@ -1,0 +1,4 @@
+pub mod Facts
+pub mod Overlaps
+pub mod Turns
+pub mod Verdicts

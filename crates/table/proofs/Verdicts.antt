@@ -1,0 +1,91 @@
+-- From a right header to the table's shape, and from the searches to the first wrong object.
+-- Assumes nothing.
+use mathlib.Core.Bool.{Bool, true, false, _&&_, _||_}
+use mathlib.Core.List.{List}
+use mathlib.Core.Path.{_≡_, refl, sym, ap, _∙_}
+use Prim.Native.Nat.{ℕ, _≤_, _<_}
+use native.Mathlib.Omega.{arith}
+use borrow.Author.Tests.{leb-true, eqb-true, lt-ltb, le-ltb}
+use lib.Dec.{leb, eqb}
+use lib.ListN.{length}
+use Rattle.memory.specs.Bytes.{get}
+use Rattle.memory.specs.Search.{least}
+use Rattle.memory.proofs.Search.{least-or, least-ext, least-le, least-before, least-none}
+use Rattle.memory.proofs.Tests.{and-split, or-split}
+use Rattle.table.specs.declared.Counts.{Counts}
+use Rattle.table.specs.declared.Verdict.the-variants.{Accepted, WrongIpdu, WrongObject}
+use Rattle.table.specs.Records.{ipduBase, objectBase, total, counts}
+use Rattle.table.specs.Rules.{offsetsRight, headerRight}
+use Rattle.table.specs.Check.{Shape, RightAlone, wrongIpdu, wrongAlone, pastDepth, overlapsLower, wrongObject, check}
+
+pub header-long : (t : List ℕ) → headerRight t ≡ true → 16 ≤ length t
+unfolding headerRight
+header-long t e = leb-true 16 (length t) (and-split (leb 16 (length t)) (offsetsRight t (counts t)) e .0)
+
+pub header-shape : (t : List ℕ) → headerRight t ≡ true → Shape t (counts t)
+unfolding headerRight offsetsRight
+header-shape t e =
+    let c = counts t in
+    let b1 : Bool = leb (c .ipdus) 32 in
+    let b2 : Bool = leb (c .objects) 128 in
+    let b3 : Bool = eqb (get 2 4 t) ipduBase in
+    let b4 : Bool = eqb (get 2 6 t) (objectBase (c .ipdus)) in
+    let b5 : Bool = eqb (get 2 8 t) (total (c .ipdus) (c .objects)) in
+    let b6 : Bool = eqb (get 2 10 t) 0 in
+    let b7 : Bool = eqb (get 4 12 t) 0 in
+    let b8 : Bool = eqb (length t) (total (c .ipdus) (c .objects)) in
+    let a8 = and-split (b1 && b2 && b3 && b4 && b5 && b6 && b7) b8 (and-split (leb 16 (length t)) _ e .1) in
+    let a7 = and-split (b1 && b2 && b3 && b4 && b5 && b6) b7 (a8 .0) in
+    let a6 = and-split (b1 && b2 && b3 && b4 && b5) b6 (a7 .0) in
+    let a5 = and-split (b1 && b2 && b3 && b4) b5 (a6 .0) in
+    let a4 = and-split (b1 && b2 && b3) b4 (a5 .0) in
+    let a3 = and-split (b1 && b2) b3 (a4 .0) in
+    let a2 = and-split b1 b2 (a3 .0) in
+    record { ipdus = leb-true _ _ (a2 .0); objects = leb-true _ _ (a2 .1); long = eqb-true _ _ (a8 .1) }
+
+module _ (t : List ℕ) (c : Counts) where
+  -- the objects below the first that is wrong by itself or in the depth sum
+  abbrev alone : ℕ → Bool
+  alone i = wrongAlone t c i || pastDepth t c i
+
+  pub right-below : Shape t c → ((k : ℕ) → k < c .ipdus → wrongIpdu t k ≡ false) → RightAlone t c (least (c .objects) alone)
+  right-below shape ipdus =
+      record {
+        shape = shape;
+        within = least-le (c .objects) alone;
+        ipdus = ipdus;
+        alone = λ i h. or-split (wrongAlone t c i) (pastDepth t c i) (least-before (c .objects) alone i h) .0;
+      }
+
+  -- the first wrong object is the first that overlaps a lower one among those
+  pub first-wrong : least (c .objects) (wrongObject t c) ≡ least (least (c .objects) alone) (overlapsLower t (c .ipdus))
+  first-wrong =
+      least-ext (c .objects) (wrongObject t c) (λ i. alone i || overlapsLower t (c .ipdus) i)
+      (λ i. last (wrongAlone t c i) (overlapsLower t (c .ipdus) i) (pastDepth t c i))
+      ∙ least-or (c .objects) alone (overlapsLower t (c .ipdus))
+    where
+      last : (a b d : Bool) → (a || b || d) ≡ (a || d || b)
+      last true b d = refl
+      last false true true = refl
+      last false true false = refl
+      last false false true = refl
+      last false false false = refl
+
+-- ---- what the check answers, from what the searches found
+
+module _ (t : List ℕ) (c : Counts) (h : headerRight t ≡ true) (here : c ≡ counts t) (k : ℕ) (first : k ≡ least (c .ipdus) (wrongIpdu t)) where
+  pub names-ipdu : k < c .ipdus → WrongIpdu (record { 0 = k }) ≡ check t
+  unfolding check
+  names-ipdu wrong = rw (h, ← here, ← first, lt-ltb k (c .ipdus) wrong)
+
+  pub ipdus-right : c .ipdus ≤ k → (j : ℕ) → j < c .ipdus → wrongIpdu t j ≡ false
+  ipdus-right none j below = least-before (c .ipdus) (wrongIpdu t) j (omega arith)
+
+  pub names-object : c .ipdus ≤ k → (i : ℕ) → i ≡ least (c .objects) (wrongObject t c) → i < c .objects
+      → WrongObject (record { 0 = i }) ≡ check t
+  unfolding check
+  names-object none i e wrong = rw (h, ← here, ← first, le-ltb k (c .ipdus) none, ← e, lt-ltb i (c .objects) wrong)
+
+  pub accepts : c .ipdus ≤ k → (i : ℕ) → i ≡ least (c .objects) (wrongObject t c) → c .objects ≤ i → Accepted c ≡ check t
+  unfolding check
+  accepts none i e right = rw (h, ← here, ← first, le-ltb k (c .ipdus) none, ← e, le-ltb i (c .objects) right)

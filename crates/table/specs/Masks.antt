@@ -1,0 +1,29 @@
+-- Masks of the bits that send objects own: what the code of `overlap` computes. proofs/Overlaps.antt shows what it says of
+-- shared bits. Assumes nothing.
+use mathlib.Core.Bool.{Bool, true}
+use mathlib.Core.List.{List}
+use Prim.Native.Nat.{ℕ, _<_}
+use lib.Bits.{bitAnd, bitOr}
+use lib.Dec.{eqb}
+use lib.ListN.{getD, set}
+use Rattle.memory.specs.Search.{pick}
+use Rattle.bits.specs.Slots.{position, mask, InSlot}
+use Rattle.table.specs.declared.ObjectRecord.{ObjectRecord}
+use Rattle.table.specs.Rules.{orderOf}
+use Rattle.table.specs.Check.{isSent}
+
+-- the object's bits lie in the slot of an I-PDU
+pub record Placed (r : ObjectRecord) : Type 0 where
+  pub ipdu : r .ipdu < 32
+  pub start : r .start < 64
+  pub slot : InSlot (position (orderOf (r .order)) (r .start)) (r .size)
+
+unfoldable pub maskOf : ObjectRecord → ℕ
+maskOf r = mask (orderOf (r .order)) (position (orderOf (r .order)) (r .start)) (r .size)
+
+-- one word of claimed bits for each I-PDU: whether the object's bits are free, and the words with them claimed
+abbrev pub clear : List ℕ → ObjectRecord → Bool
+clear used r = pick (isSent r) (eqb (bitAnd (getD used (r .ipdu) 0) (maskOf r)) 0) true
+
+abbrev pub claimed : List ℕ → ObjectRecord → List ℕ
+claimed used r = pick (isSent r) (set used (r .ipdu) (bitOr (getD used (r .ipdu) 0) (maskOf r))) used

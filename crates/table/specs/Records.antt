@@ -1,0 +1,65 @@
+-- Document 01, "The table": where each record stands and what its bytes are. Numbers are little-endian.
+-- Assumes nothing.
+use mathlib.Core.List.{List}
+use Prim.Native.Nat.{ℕ, _+_, _*_}
+use Rattle.memory.specs.Bytes.{get}
+use Rattle.table.specs.declared.Counts.{Counts}
+use Rattle.table.specs.declared.IpduRecord.{IpduRecord}
+use Rattle.table.specs.declared.ObjectRecord.{ObjectRecord}
+
+-- a header of counts and offsets comes first, then the I-PDU records, then the object records
+abbrev pub ipduBase : ℕ
+ipduBase = 16
+
+abbrev pub objectBase : ℕ → ℕ
+objectBase ipdus = ipduBase + 16 * ipdus
+
+abbrev pub total : ℕ → ℕ → ℕ
+total ipdus objects = objectBase ipdus + 32 * objects
+
+unfoldable pub counts : List ℕ → Counts
+counts t = record { ipdus = get 2 0 t; objects = get 2 2 t }
+
+-- an I-PDU record, 16 bytes from a on
+abbrev pub ipduRecordAt : ℕ → List ℕ → IpduRecord
+ipduRecordAt a t =
+    record {
+      direction = get 1 a t;
+      length = get 1 (a + 1) t;
+      mode = get 1 (a + 2) t;
+      «zero_3» = get 1 (a + 3) t;
+      period = get 2 (a + 4) t;
+      offset = get 2 (a + 6) t;
+      «minimum_delay» = get 2 (a + 8) t;
+      deadline = get 2 (a + 10) t;
+      «first_deadline» = get 2 (a + 12) t;
+      «zero_14» = get 2 (a + 14) t;
+    }
+
+unfoldable pub ipduRecord : List ℕ → ℕ → IpduRecord
+ipduRecord t k = ipduRecordAt (ipduBase + 16 * k) t
+
+-- an object record, 32 bytes from a on
+abbrev pub objectRecordAt : ℕ → List ℕ → ObjectRecord
+objectRecordAt a t =
+    record {
+      kind = get 1 a t;
+      ipdu = get 1 (a + 1) t;
+      sender = get 1 (a + 2) t;
+      start = get 1 (a + 3) t;
+      size = get 1 (a + 4) t;
+      order = get 1 (a + 5) t;
+      transfer = get 1 (a + 6) t;
+      depth = get 1 (a + 7) t;
+      filter = get 1 (a + 8) t;
+      «zero_9» = get 1 (a + 9) t;
+      «zero_10» = get 2 (a + 10) t;
+      initial = get 4 (a + 12) t;
+      first = get 4 (a + 16) t;
+      second = get 4 (a + 20) t;
+      «zero_24» = get 8 (a + 24) t;
+    }
+
+-- of a table with so many I-PDUs
+unfoldable pub objectRecord : List ℕ → ℕ → ℕ → ObjectRecord
+objectRecord t ipdus i = objectRecordAt (objectBase ipdus + 32 * i) t

@@ -1,0 +1,75 @@
+// The table of I-PDUs and message objects: its records, and the check that every call makes (document 01, "The table").
+mod overlap;
+mod records;
+mod rules;
+mod search;
+
+pub use records::header_counts;
+pub use records::ipdu_record;
+pub use records::object_record;
+pub use rules::header_right;
+pub use rules::ipdu_right;
+pub use rules::object_right;
+pub use rules::order_of;
+pub use search::check;
+ghost use mathlib.Core.Path.{_≡_};
+
+// The number of a message object, and of an I-PDU: counted separately.
+pub struct ObjectNumber(pub u32);
+
+pub struct IpduNumber(pub u32);
+
+// How many I-PDUs and objects a table has, from its header.
+pub struct Counts {
+    pub ipdus: u32,
+    pub objects: u32,
+}
+
+// The bytes of an I-PDU record, in their order. `zero_3` and `zero_14` are the bytes that have to be zero.
+pub struct IpduRecord {
+    pub direction: u32,
+    pub length: u32,
+    pub mode: u32,
+    pub zero_3: u32,
+    pub period: u32,
+    pub offset: u32,
+    pub minimum_delay: u32,
+    pub deadline: u32,
+    pub first_deadline: u32,
+    pub zero_14: u32,
+}
+
+// The bytes of an object record, in their order.
+pub struct ObjectRecord {
+    pub kind: u32,
+    pub ipdu: u32,
+    pub sender: u32,
+    pub start: u32,
+    pub size: u32,
+    pub order: u32,
+    pub transfer: u32,
+    pub depth: u32,
+    pub filter: u32,
+    pub zero_9: u32,
+    pub zero_10: u32,
+    pub initial: u32,
+    pub first: u32,
+    pub second: u32,
+    pub zero_24: u64,
+}
+
+// What an object record refers to: the direction and length of its I-PDU and the kind of its sending object, 0 where there is
+// none.
+pub struct References {
+    pub direction: u32,
+    pub length: u32,
+    pub sender_kind: u32,
+}
+
+// What the check answers: the counts of a right table, or its first wrong record.
+pub enum Verdict {
+    Accepted(Counts),
+    WrongHeader,
+    WrongIpdu(IpduNumber),
+    WrongObject(ObjectNumber),
+}

@@ -1,0 +1,135 @@
+// When the header and a record are right by themselves. Tests are joined by `&` and `|`, which make no branch.
+use super::Counts;
+use super::IpduRecord;
+use super::ObjectRecord;
+use super::References;
+use bits::BitSize;
+use bits::ByteLength;
+use bits::Order;
+ghost use mathlib.Core.Path.{_≡_};
+ghost use Prim.Native.Nat.{_≤_};
+ghost use lib.ListN.{length};
+ghost use Rattle.table.specs.Rules.{offsetsRight, headerRight, ipduRight, sendIpdu, receiveIpdu, orderOf, sendObject, receiveObject, withoutIpdu, withinIpdu, senderRight, objectRight};
+
+// Whether the header is right, for a slice of any length.
+pub fn header_right(t: &[u8]) -> bool
+    ensures { λ r. ⌜ r ≡ headerRight (now (t .entry)) ⌝ }
+{
+    if t.len() < 16 {
+        return false;
+    }
+    offsets_right(t, super::header_counts(t))
+}
+
+fn offsets_right(t: &[u8], c: Counts) -> bool
+    requires { ⌜ 16 ≤ length (now t) ⌝ }
+    ensures { λ r. ⌜ r ≡ offsetsRight (now (t .entry)) c ⌝ }
+{
+    let n = c.ipdus as usize;
+    let m = c.objects as usize;
+    let objects = 16 + 16 * n;
+    let end = objects + 32 * m;
+    (c.ipdus <= 32)
+        & (c.objects <= 128)
+        & (memory::read16(t, 4) == 16)
+        & (memory::read16(t, 6) as usize == objects)
+        & (memory::read16(t, 8) as usize == end)
+        & (memory::read16(t, 10) == 0)
+        & (memory::read32(t, 12) == 0)
+        & (t.len() == end)
+}
+
+// Whether an I-PDU record is right.
+pub fn ipdu_right(r: IpduRecord) -> bool
+    ensures { λ b. ⌜ b ≡ ipduRight r ⌝ }
+{
+    let send = send_ipdu(r);
+    let receive = receive_ipdu(r);
+    (1 <= r.length)
+        & (r.length <= 8)
+        & (r.mode <= 2)
+        & (r.zero_3 == 0)
+        & (r.zero_14 == 0)
+        & ((r.direction == 1) & send | (r.direction == 2) & receive)
+}
+
+fn send_ipdu(r: IpduRecord) -> bool
+    ensures { λ b. ⌜ b ≡ sendIpdu r ⌝ }
+{
+    (1 <= r.deadline)
+        & (r.first_deadline == 0)
+        & ((r.mode == 0) & (r.period == 0) & (r.offset == 0)
+            | (1 <= r.mode) & (1 <= r.period) & (1 <= r.offset))
+        & (!(r.mode == 1) | (r.minimum_delay == 0))
+}
+
+fn receive_ipdu(r: IpduRecord) -> bool
+    ensures { λ b. ⌜ b ≡ receiveIpdu r ⌝ }
+{
+    (r.mode == 0)
+        & (r.period == 0)
+        & (r.offset == 0)
+        & (r.minimum_delay == 0)
+        & ((r.first_deadline == 0) | (1 <= r.deadline))
+}
+
+// The byte order that byte 5 of an object record stands for.
+pub fn order_of(order: u32) -> Order
+    ensures { λ r. ⌜ r ≡ orderOf order ⌝ }
+{
+    if order == 0 {
+        Order::Little
+    } else {
+        Order::Big
+    }
+}
+
+// Whether an object record is right by itself, given what it refers to.
+pub fn object_right(r: ObjectRecord, x: References) -> bool
+    ensures { λ b. ⌜ b ≡ objectRight r x ⌝ }
+{
+    let filter = filter::filter_right(r.filter, r.first, r.second);
+    let within = within_ipdu(r, x);
+    (1 <= r.size)
+        & (r.size <= 32)
+        & (r.order <= 1)
+        & (r.transfer <= 1)
+        & (r.depth <= 16)
+        & filter
+        & (r.zero_9 == 0)
+        & (r.zero_10 == 0)
+        & (r.zero_24 == 0)
+        & (send_object(r) | receive_object(r))
+        & (without_ipdu(r) | within)
+        & ((r.sender == 255) | (x.sender_kind == 1))
+}
+
+fn send_object(r: ObjectRecord) -> bool
+    ensures { λ b. ⌜ b ≡ sendObject r ⌝ }
+{
+    (r.kind == 1) & (r.sender == 255) & (r.depth == 0)
+}
+
+fn receive_object(r: ObjectRecord) -> bool
+    ensures { λ b. ⌜ b ≡ receiveObject r ⌝ }
+{
+    (r.kind == 2) & (r.transfer == 0) & ((r.ipdu == 255) | (r.sender == 255))
+}
+
+fn without_ipdu(r: ObjectRecord) -> bool
+    ensures { λ b. ⌜ b ≡ withoutIpdu r ⌝ }
+{
+    (r.ipdu == 255) & (r.start == 0) & (r.size == 32) & (r.order == 0)
+}
+
+fn within_ipdu(r: ObjectRecord, x: References) -> bool
+    ensures { λ b. ⌜ b ≡ withinIpdu r x ⌝ }
+{
+    let room = bits::has_room(
+        order_of(r.order),
+        r.start,
+        BitSize(r.size),
+        ByteLength(x.length),
+    );
+    (x.direction == r.kind) & room
+}
