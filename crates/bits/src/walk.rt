@@ -78,10 +78,8 @@ pub fn position(order: Order, place: u32) -> u32
     requires { ⌜ place < 64 ⌝ }
     ensures { λ r. ⌜ r ≡ position order place ⌝ }
 {
-    // Read under either order, so that the choice needs no branch.
-    let met = BIG_WALK[place as usize] as u32;
     match order {
         Order::Little => place,
-        Order::Big => met,
+        Order::Big => BIG_WALK[place as usize] as u32,
     }
 }

@@ -1,11 +1,14 @@
 -- Laws of filters that callers cite.
 -- Assumes nothing.
-use mathlib.Core.Bool.{true, _&&_}
-use mathlib.Core.Path.{_≡_}
-use Prim.Native.Nat.{ℕ}
-use borrow.Author.Tests.{leb-true}
+use mathlib.Core.Bool.{Bool, true, false, not, _&&_}
+use mathlib.Core.Logic.{⊎-elim}
+use mathlib.Core.Path.{_≡_, refl, sym}
+use Prim.Native.Nat.{ℕ, _≤_, _<_}
+use native.Mathlib.Omega.{arith}
+use borrow.Author.Tests.{leb-true, le-leb, lt-leb, not-false}
 use lib.Dec.{leb, ltb}
-use Rattle.memory.proofs.Tests.{and-split}
+use Rattle.memory.proofs.Search.{any-false}
+use Rattle.memory.proofs.Tests.{and-split, lt-or-le, eq-or-ne}
 use Rattle.filter.specs.declared.Filter.{Filter}
 use Rattle.filter.specs.declared.Filter.the-variants.{Always, Never, MaskedNewEqualsX, MaskedNewDiffersX, NewIsEqual, NewIsDifferent, MaskedNewEqualsMaskedOld, MaskedNewDiffersMaskedOld, NewIsWithin, NewIsOutside, NewIsGreater, NewIsLessOrEqual, NewIsLess, NewIsGreaterOrEqual, OneEveryN}
 use Rattle.filter.specs.Filters.{HasPeriod, constants, filterOf, filterRight}
@@ -32,3 +35,19 @@ constants-period (OneEveryN period offset) c d e =
 pub right-has-period : (number c d : ℕ) → filterRight number c d ≡ true → HasPeriod (filterOf number c d)
 unfolding filterRight
 right-has-period number c d e = constants-period (filterOf number c d) c d (and-split (leb number 14) _ e .1)
+
+-- with both constants zero every filter but the one with a period is right
+pub no-constants : (number : ℕ) → leb number 13 ≡ filterRight number 0 0
+unfolding filterRight filterOf
+no-constants number =
+    ⊎-elim
+    (λ (h : number < 14).
+    let each : constants (filterOf number 0 0) 0 0 ≡ true =
+    not-false _ (any-false 14 (λ k. not (constants (filterOf k 0 0) 0 0)) refl number h) in
+    rw (le-leb number 13 (omega arith), le-leb number 14 (omega arith)) (sym each))
+    (λ (h : 14 ≤ number).
+    ⊎-elim
+    (λ (e : number ≡ 14). rw e)
+    (λ (ne : number ≡ 14 → ⊥). rw (lt-leb number 13 (omega arith), lt-leb number 14 (omega arith)))
+    (eq-or-ne number 14))
+    (lt-or-le number 14)

@@ -62,10 +62,13 @@ pub fn filter_of(number: u32, first: u32, second: u32) -> Filter
     }
 }
 
-// Whether a table's record may have this filter number with these two constants.
+// Whether a table's record may have this filter number with these two constants. With both zero, only a period is missing.
 pub fn filter_right(number: u32, first: u32, second: u32) -> bool
     ensures { λ r. ⌜ r ≡ filterRight number first second ⌝ }
 {
+    if (first == 0) & (second == 0) {
+        return number <= 13;
+    }
     let known = number <= 14;
     known & constants_right(filter_of(number, first, second), first, second)
 }

@@ -20,53 +20,65 @@ use Rattle.table.specs.declared.IpduRecord.{IpduRecord}
 use Rattle.table.specs.declared.ObjectRecord.{ObjectRecord}
 use Rattle.table.specs.declared.References.{References}
 use Rattle.table.specs.Records.{total, counts, ipduRecord, objectRecord}
-use Rattle.table.specs.Rules.{ipduRight, sendIpdu, receiveIpdu, orderOf, references, sendObject, receiveObject, withoutIpdu, withinIpdu, senderRight, objectRight}
+use Rattle.table.specs.Rules.{ipduRight, sendIpdu, receiveIpdu, ipduBytes, orderOf, references, sendObject, receiveObject, withoutIpdu, withinIpdu, senderRight, bytesRight, objectRight}
 use Rattle.table.specs.Check.{Shape, RightAlone, isSent, wrongIpdu, wrongAlone}
 use Rattle.table.specs.Masks.{Placed}
 
 -- ---- object records
 
 pub record ObjectFacts (r : ObjectRecord) (x : References) : Type 0 where
-  pub least : leb 1 (r .size) ≡ true
-  pub most : leb (r .size) 32 ≡ true
-  pub orders : leb (r .order) 1 ≡ true
-  pub transfers : leb (r .transfer) 1 ≡ true
-  pub depths : leb (r .depth) 16 ≡ true
-  pub filters : filterRight (r .filter) (r .first) (r .second) ≡ true
-  pub zero-9 : eqb (r .«zero_9») 0 ≡ true
-  pub zero-10 : eqb (r .«zero_10») 0 ≡ true
-  pub zero-24 : eqb (r .«zero_24») 0 ≡ true
+  pub bytes : bytesRight r ≡ true
   pub kinds : (sendObject r || receiveObject r) ≡ true
   pub places : (withoutIpdu r || withinIpdu r x) ≡ true
   pub senders : senderRight r x ≡ true
+  pub filters : filterRight (r .filter) (r .first) (r .second) ≡ true
 
 pub object-facts : (r : ObjectRecord) (x : References) → objectRight r x ≡ true → ObjectFacts r x
 unfolding objectRight
 object-facts r x e =
-    let a11 = and-split ((leb 1 (r .size)) && (leb (r .size) 32) && (leb (r .order) 1) && (leb (r .transfer) 1) && (leb (r .depth) 16) && (filterRight (r .filter) (r .first) (r .second)) && (eqb (r .«zero_9») 0) && (eqb (r .«zero_10») 0) && (eqb (r .«zero_24») 0) && (sendObject r || receiveObject r) && (withoutIpdu r || withinIpdu r x)) (senderRight r x) (e) in
-    let a10 = and-split ((leb 1 (r .size)) && (leb (r .size) 32) && (leb (r .order) 1) && (leb (r .transfer) 1) && (leb (r .depth) 16) && (filterRight (r .filter) (r .first) (r .second)) && (eqb (r .«zero_9») 0) && (eqb (r .«zero_10») 0) && (eqb (r .«zero_24») 0) && (sendObject r || receiveObject r)) ((withoutIpdu r || withinIpdu r x)) (a11 .0) in
-    let a9 = and-split ((leb 1 (r .size)) && (leb (r .size) 32) && (leb (r .order) 1) && (leb (r .transfer) 1) && (leb (r .depth) 16) && (filterRight (r .filter) (r .first) (r .second)) && (eqb (r .«zero_9») 0) && (eqb (r .«zero_10») 0) && (eqb (r .«zero_24») 0)) ((sendObject r || receiveObject r)) (a10 .0) in
-    let a8 = and-split ((leb 1 (r .size)) && (leb (r .size) 32) && (leb (r .order) 1) && (leb (r .transfer) 1) && (leb (r .depth) 16) && (filterRight (r .filter) (r .first) (r .second)) && (eqb (r .«zero_9») 0) && (eqb (r .«zero_10») 0)) (eqb (r .«zero_24») 0) (a9 .0) in
-    let a7 = and-split ((leb 1 (r .size)) && (leb (r .size) 32) && (leb (r .order) 1) && (leb (r .transfer) 1) && (leb (r .depth) 16) && (filterRight (r .filter) (r .first) (r .second)) && (eqb (r .«zero_9») 0)) (eqb (r .«zero_10») 0) (a8 .0) in
-    let a6 = and-split ((leb 1 (r .size)) && (leb (r .size) 32) && (leb (r .order) 1) && (leb (r .transfer) 1) && (leb (r .depth) 16) && (filterRight (r .filter) (r .first) (r .second))) (eqb (r .«zero_9») 0) (a7 .0) in
-    let a5 = and-split ((leb 1 (r .size)) && (leb (r .size) 32) && (leb (r .order) 1) && (leb (r .transfer) 1) && (leb (r .depth) 16)) (filterRight (r .filter) (r .first) (r .second)) (a6 .0) in
-    let a4 = and-split ((leb 1 (r .size)) && (leb (r .size) 32) && (leb (r .order) 1) && (leb (r .transfer) 1)) (leb (r .depth) 16) (a5 .0) in
-    let a3 = and-split ((leb 1 (r .size)) && (leb (r .size) 32) && (leb (r .order) 1)) (leb (r .transfer) 1) (a4 .0) in
-    let a2 = and-split ((leb 1 (r .size)) && (leb (r .size) 32)) (leb (r .order) 1) (a3 .0) in
-    let a1 = and-split ((leb 1 (r .size))) (leb (r .size) 32) (a2 .0) in
+    let a4 = and-split ((bytesRight r) && (sendObject r || receiveObject r) && (withoutIpdu r || withinIpdu r x) && (senderRight r x)) (filterRight (r .filter) (r .first) (r .second)) (e) in
+    let a3 = and-split ((bytesRight r) && (sendObject r || receiveObject r) && (withoutIpdu r || withinIpdu r x)) (senderRight r x) (a4 .0) in
+    let a2 = and-split ((bytesRight r) && (sendObject r || receiveObject r)) ((withoutIpdu r || withinIpdu r x)) (a3 .0) in
+    let a1 = and-split ((bytesRight r)) ((sendObject r || receiveObject r)) (a2 .0) in
     record {
-      least = a1 .0;
-      most = a1 .1;
-      orders = a2 .1;
-      transfers = a3 .1;
-      depths = a4 .1;
-      filters = a5 .1;
-      zero-9 = a6 .1;
-      zero-10 = a7 .1;
-      zero-24 = a8 .1;
-      kinds = a9 .1;
-      places = a10 .1;
-      senders = a11 .1;
+      bytes = a1 .0;
+      kinds = a1 .1;
+      places = a2 .1;
+      senders = a3 .1;
+      filters = a4 .1;
+    }
+
+-- the limits of its bytes
+pub record ByteFacts (r : ObjectRecord) : Type 0 where
+  pub least : 1 ≤ r .size
+  pub most : r .size ≤ 32
+  pub orders : r .order ≤ 1
+  pub transfers : r .transfer ≤ 1
+  pub depths : r .depth ≤ 16
+
+pub byte-facts : (r : ObjectRecord) → bytesRight r ≡ true → ByteFacts r
+byte-facts r e =
+    let b1 : Bool = leb 1 (r .size) in
+    let b2 : Bool = leb (r .size) 32 in
+    let b3 : Bool = leb (r .order) 1 in
+    let b4 : Bool = leb (r .transfer) 1 in
+    let b5 : Bool = leb (r .depth) 16 in
+    let b6 : Bool = eqb (r .«zero_9») 0 in
+    let b7 : Bool = eqb (r .«zero_10») 0 in
+    let b8 : Bool = eqb (r .«zero_24») 0 in
+    let a7 = and-split (b1 && b2 && b3 && b4 && b5 && b6 && b7) b8 e in
+    let a6 = and-split (b1 && b2 && b3 && b4 && b5 && b6) b7 (a7 .0) in
+    let a5 = and-split (b1 && b2 && b3 && b4 && b5) b6 (a6 .0) in
+    let a4 = and-split (b1 && b2 && b3 && b4) b5 (a5 .0) in
+    let a3 = and-split (b1 && b2 && b3) b4 (a4 .0) in
+    let a2 = and-split (b1 && b2) b3 (a3 .0) in
+    let a1 = and-split b1 b2 (a2 .0) in
+    record {
+      least = leb-true 1 (r .size) (a1 .0);
+      most = leb-true (r .size) 32 (a1 .1);
+      orders = leb-true (r .order) 1 (a2 .1);
+      transfers = leb-true (r .transfer) 1 (a3 .1);
+      depths = leb-true (r .depth) 16 (a4 .1);
     }
 
 -- ---- I-PDU records
@@ -122,10 +134,10 @@ module _ (t : List ℕ) (c : Counts) (end : ℕ) (right : RightAlone t c end) wh
       let exists : ltb (r .ipdu) (c .ipdus) ≡ true = picked _ _ (eqb-true _ _ (parts .0) ∙ kind) in
       let number : r .ipdu < c .ipdus = ltb-true _ _ exists in
       let length : x .length ≤ 8 = rw exists (ipdu-right (r .ipdu) number .most) in
-      let size : 0 < r .size = leb-true 1 (r .size) (facts .least) in
-      let along = run (orderOf (r .order)) (r .start) (r .size) size (room-slot (orderOf (r .order)) (r .start) (r .size) (x .length) length (parts .1)) in
+      let bytes = byte-facts r (facts .bytes) in
+      let along = run (orderOf (r .order)) (r .start) (r .size) (bytes .least) (room-slot (orderOf (r .order)) (r .start) (r .size) (x .length) length (parts .1)) in
       record {
         ipdu = omega (arith, right .shape .ipdus);
         start = along .begins;
-        slot = record { some = size; most = leb-true (r .size) 32 (facts .most); inside = along .ends };
+        slot = record { some = bytes .least; most = bytes .most; inside = along .ends };
       }

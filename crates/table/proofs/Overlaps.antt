@@ -20,6 +20,7 @@ use Rattle.bits.proofs.Numbers.{bit-of-zero}
 use Rattle.bits.specs.Slots.{position}
 use Rattle.bits.proofs.Places.{Run, position-twice}
 use Rattle.bits.proofs.Masks.{Describes, mask-bit, mask-lt, words-share, words-join}
+use Rattle.table.proofs.Turns.{or-false}
 use Rattle.table.specs.declared.ObjectRecord.{ObjectRecord}
 use Rattle.table.specs.Records.{objectRecord}
 use Rattle.table.specs.Rules.{orderOf}
@@ -62,10 +63,6 @@ used-next t ipdus i = ap (usedAfter t ipdus) (add-one i)
 abbrev owner : List ℕ → ℕ → ℕ → ℕ → ℕ → Bool
 owner t ipdus k p j =
     isSent (objectRecord t ipdus j) && eqb (objectRecord t ipdus j .ipdu) k && ownsBit (objectRecord t ipdus j) p
-
-or-false : (a : Bool) → (a || false) ≡ a
-or-false true = refl
-or-false false = refl
 
 -- a test fails where its second half does whenever its first half holds
 split : (a b : Bool) → (a ≡ true → b ≡ false) → (a && b) ≡ false

@@ -25,6 +25,10 @@ pub or-true : (a b : Bool) → b ≡ true → (a || b) ≡ true
 or-true true b e = refl
 or-true false b e = e
 
+pub or-false : (a : Bool) → (a || false) ≡ a
+or-false true = refl
+or-false false = refl
+
 module _ (t : List ℕ) (c : Counts) (i : ℕ) (r : ObjectRecord) (here : r ≡ objectRecord t (c .ipdus) i) where
   object-test : (b : Bool) (x : References) → b ≡ objectRight r x → x ≡ references t c r → wrongAlone t c i ≡ not b
   object-test b x e f = ap not (sym (e ∙ ap (objectRight r) f ∙ ap (λ (s : ObjectRecord). objectRight s (references t c s)) here))

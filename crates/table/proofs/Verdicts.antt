@@ -2,21 +2,22 @@
 -- Assumes nothing.
 use mathlib.Core.Bool.{Bool, true, false, _&&_, _||_}
 use mathlib.Core.List.{List}
+use mathlib.Core.Logic.{⊎-elim}
 use mathlib.Core.Path.{_≡_, refl, sym, ap, _∙_}
 use Prim.Native.Nat.{ℕ, _≤_, _<_}
 use native.Mathlib.Omega.{arith}
-use borrow.Author.Tests.{leb-true, eqb-true, lt-ltb, le-ltb}
-use lib.Dec.{leb, eqb}
+use borrow.Author.Tests.{leb-true, eqb-true, lt-ltb, le-ltb, ltb-true}
+use lib.Dec.{leb, ltb, eqb}
 use lib.ListN.{length}
 use Rattle.memory.specs.Bytes.{get}
 use Rattle.memory.specs.Search.{least}
 use Rattle.memory.proofs.Search.{least-or, least-ext, least-le, least-before, least-none}
-use Rattle.memory.proofs.Tests.{and-split, or-split}
+use Rattle.memory.proofs.Tests.{and-split, or-split, true-or-false}
 use Rattle.table.specs.declared.Counts.{Counts}
 use Rattle.table.specs.declared.Verdict.the-variants.{Accepted, WrongIpdu, WrongObject}
 use Rattle.table.specs.Records.{ipduBase, objectBase, total, counts}
 use Rattle.table.specs.Rules.{offsetsRight, headerRight}
-use Rattle.table.specs.Check.{Shape, RightAlone, wrongIpdu, wrongAlone, pastDepth, overlapsLower, wrongObject, check}
+use Rattle.table.specs.Check.{Shape, RightAlone, wrongIpdu, wrongAlone, pastDepth, overlapsLower, wrongObject, checkObjects, checkIpdus, checkRecords, check, placeOf}
 
 pub header-long : (t : List ℕ) → headerRight t ≡ true → 16 ≤ length t
 unfolding headerRight
@@ -89,3 +90,26 @@ module _ (t : List ℕ) (c : Counts) (h : headerRight t ≡ true) (here : c ≡ 
   pub accepts : c .ipdus ≤ k → (i : ℕ) → i ≡ least (c .objects) (wrongObject t c) → c .objects ≤ i → Accepted c ≡ check t
   unfolding check
   accepts none i e right = rw (h, ← here, ← first, le-ltb k (c .ipdus) none, ← e, le-ltb i (c .objects) right)
+
+-- a place is at most the header's
+pub place-bound : (t : List ℕ) → placeOf (check t) ≤ 65535
+unfolding check
+place-bound t =
+    ⊎-elim (λ h. rw h (within (header-shape t h))) (λ h. rw h (omega arith)) (true-or-false (headerRight t))
+  where
+    objects : Shape t (counts t) → (i : ℕ) → placeOf (checkObjects t (counts t) i) ≤ 65535
+    objects shape i =
+        ⊎-elim
+        (λ h. rw h (omega (arith, ltb-true i (counts t .objects) h, shape .objects)))
+        (λ h. rw h (omega arith))
+        (true-or-false (ltb i (counts t .objects)))
+
+    ipdus : Shape t (counts t) → (k : ℕ) → placeOf (checkIpdus t (counts t) k) ≤ 65535
+    ipdus shape k =
+        ⊎-elim
+        (λ h. rw h (omega (arith, ltb-true k (counts t .ipdus) h, shape .ipdus)))
+        (λ h. rw h (objects shape (least (counts t .objects) (wrongObject t (counts t)))))
+        (true-or-false (ltb k (counts t .ipdus)))
+
+    within : Shape t (counts t) → placeOf (checkRecords t (counts t)) ≤ 65535
+    within shape = ipdus shape (least (counts t .ipdus) (wrongIpdu t))

@@ -54,14 +54,12 @@ receiveIpdu r =
     && eqb (r .«minimum_delay») 0
     && (eqb (r .«first_deadline») 0 || leb 1 (r .deadline))
 
+-- length 1..8, mode 0..2, the rest zero
+abbrev pub ipduBytes : IpduRecord → Bool
+ipduBytes r = leb 1 (r .length) && leb (r .length) 8 && leb (r .mode) 2 && eqb (r .«zero_3») 0 && eqb (r .«zero_14») 0
+
 unfoldable pub ipduRight : IpduRecord → Bool
-ipduRight r =
-    leb 1 (r .length)
-    && leb (r .length) 8
-    && leb (r .mode) 2
-    && eqb (r .«zero_3») 0
-    && eqb (r .«zero_14») 0
-    && (eqb (r .direction) 1 && sendIpdu r || eqb (r .direction) 2 && receiveIpdu r)
+ipduRight r = ipduBytes r && (eqb (r .direction) 1 && sendIpdu r || eqb (r .direction) 2 && receiveIpdu r)
 
 -- ---- an object record: kind 1 send, 2 receive; I-PDU or sending object 255 for none; order 0 little, 1 big
 
@@ -97,17 +95,22 @@ withinIpdu r x = eqb (x .direction) (r .kind) && room (orderOf (r .order)) (r .s
 abbrev pub senderRight : ObjectRecord → References → Bool
 senderRight r x = eqb (r .sender) 255 || eqb (x .«sender_kind») 1
 
-unfoldable pub objectRight : ObjectRecord → References → Bool
-objectRight r x =
+-- each byte within its limits, and the rest zero
+abbrev pub bytesRight : ObjectRecord → Bool
+bytesRight r =
     leb 1 (r .size)
     && leb (r .size) 32
     && leb (r .order) 1
     && leb (r .transfer) 1
     && leb (r .depth) 16
-    && filterRight (r .filter) (r .first) (r .second)
     && eqb (r .«zero_9») 0
     && eqb (r .«zero_10») 0
     && eqb (r .«zero_24») 0
+
+unfoldable pub objectRight : ObjectRecord → References → Bool
+objectRight r x =
+    bytesRight r
     && (sendObject r || receiveObject r)
     && (withoutIpdu r || withinIpdu r x)
     && senderRight r x
+    && filterRight (r .filter) (r .first) (r .second)

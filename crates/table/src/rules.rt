@@ -6,10 +6,11 @@ use super::References;
 use bits::BitSize;
 use bits::ByteLength;
 use bits::Order;
+ghost use mathlib.Core.Bool.{_||_};
 ghost use mathlib.Core.Path.{_≡_};
 ghost use Prim.Native.Nat.{_≤_};
 ghost use lib.ListN.{length};
-ghost use Rattle.table.specs.Rules.{offsetsRight, headerRight, ipduRight, sendIpdu, receiveIpdu, orderOf, sendObject, receiveObject, withoutIpdu, withinIpdu, senderRight, objectRight};
+ghost use Rattle.table.specs.Rules.{offsetsRight, headerRight, ipduBytes, ipduRight, sendIpdu, receiveIpdu, orderOf, sendObject, receiveObject, withoutIpdu, withinIpdu, bytesRight, objectRight};
 
 // Whether the header is right, for a slice of any length.
 pub fn header_right(t: &[u8]) -> bool
@@ -43,14 +44,19 @@ fn offsets_right(t: &[u8], c: Counts) -> bool
 pub fn ipdu_right(r: IpduRecord) -> bool
     ensures { λ b. ⌜ b ≡ ipduRight r ⌝ }
 {
-    let send = send_ipdu(r);
-    let receive = receive_ipdu(r);
-    (1 <= r.length)
-        & (r.length <= 8)
-        & (r.mode <= 2)
-        & (r.zero_3 == 0)
-        & (r.zero_14 == 0)
-        & ((r.direction == 1) & send | (r.direction == 2) & receive)
+    if !ipdu_bytes(r) {
+        return false;
+    }
+    if r.direction == 1 {
+        return send_ipdu(r);
+    }
+    (r.direction == 2) & receive_ipdu(r)
+}
+
+fn ipdu_bytes(r: IpduRecord) -> bool
+    ensures { λ b. ⌜ b ≡ ipduBytes r ⌝ }
+{
+    (1 <= r.length) & (r.length <= 8) & (r.mode <= 2) & (r.zero_3 == 0) & (r.zero_14 == 0)
 }
 
 fn send_ipdu(r: IpduRecord) -> bool
@@ -88,38 +94,51 @@ pub fn order_of(order: u32) -> Order
 pub fn object_right(r: ObjectRecord, x: References) -> bool
     ensures { λ b. ⌜ b ≡ objectRight r x ⌝ }
 {
+    if !bytes_right(r) {
+        return false;
+    }
+    if !kind_right(r) {
+        return false;
+    }
+    if !place_right(r, x) {
+        return false;
+    }
     let filter = filter::filter_right(r.filter, r.first, r.second);
-    let within = within_ipdu(r, x);
+    ((r.sender == 255) | (x.sender_kind == 1)) & filter
+}
+
+fn bytes_right(r: ObjectRecord) -> bool
+    ensures { λ b. ⌜ b ≡ bytesRight r ⌝ }
+{
     (1 <= r.size)
         & (r.size <= 32)
         & (r.order <= 1)
         & (r.transfer <= 1)
         & (r.depth <= 16)
-        & filter
         & (r.zero_9 == 0)
         & (r.zero_10 == 0)
         & (r.zero_24 == 0)
-        & (send_object(r) | receive_object(r))
-        & (without_ipdu(r) | within)
-        & ((r.sender == 255) | (x.sender_kind == 1))
 }
 
-fn send_object(r: ObjectRecord) -> bool
-    ensures { λ b. ⌜ b ≡ sendObject r ⌝ }
+fn kind_right(r: ObjectRecord) -> bool
+    ensures { λ b. ⌜ b ≡ (sendObject r || receiveObject r) ⌝ }
 {
-    (r.kind == 1) & (r.sender == 255) & (r.depth == 0)
-}
-
-fn receive_object(r: ObjectRecord) -> bool
-    ensures { λ b. ⌜ b ≡ receiveObject r ⌝ }
-{
+    if r.kind == 1 {
+        return (r.sender == 255) & (r.depth == 0);
+    }
     (r.kind == 2) & (r.transfer == 0) & ((r.ipdu == 255) | (r.sender == 255))
 }
 
-fn without_ipdu(r: ObjectRecord) -> bool
-    ensures { λ b. ⌜ b ≡ withoutIpdu r ⌝ }
+fn place_right(r: ObjectRecord, x: References) -> bool
+    ensures { λ b. ⌜ b ≡ (withoutIpdu r || withinIpdu r x) ⌝ }
 {
-    (r.ipdu == 255) & (r.start == 0) & (r.size == 32) & (r.order == 0)
+    if r.ipdu == 255 {
+        if (r.start == 0) & (r.size == 32) & (r.order == 0) {
+            return true;
+        }
+        return within_ipdu(r, x);
+    }
+    within_ipdu(r, x)
 }
 
 fn within_ipdu(r: ObjectRecord, x: References) -> bool

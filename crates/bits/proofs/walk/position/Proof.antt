@@ -41,24 +41,27 @@ gives-the-walk n i h k =
     sym (position-twice Big (place Big n i) (met .inside)) ∙ ap (position Big) (met .at)
     ∙ sym (entry (position Big n + i) inside) ∙ ap (λ (p : ℕ). getD bigWalk (p + i) 0) (sym start)
 
-array-read-met : tie.Need-array-read-met
-array-read-met c = search needs
-
-cast-met : tie.Need-cast-met
-cast-met c = omega (arith, entry (c .args .place) (c .pre), position-lt Big (c .args .place) (c .pre))
-
 enum-told : tie.Need-enum-told
 enum-told c = search needs
 
 enum-told-2 : tie.Need-enum-told-2
 enum-told-2 c = search needs
 
+array-read-result : tie.Need-array-read-result
+array-read-result c = search needs
+
+cast-result : tie.Need-cast-result
+cast-result c =
+    let p = c .before .before .args .place in
+    omega (arith, entry p (c .before .before .pre), position-lt Big p (c .before .before .pre))
+
 returns : tie.Need-returns
 unfolding position
-returns c = cc
+returns c = rw (c .enum-told .given .1)
 
 returns-2 : tie.Need-returns-2
-returns-2 c = cc (entry (c .before .before .args .place) (c .before .before .pre))
+returns-2 c = rw (c .enum-told2 .given .1) (entry (c .before .before .args .place) (c .before .before .pre))
 
 pub position-spec : {M : Type 1} → statement M
-position-spec = tie.close (tie.spec array-read-met cast-met enum-told enum-told-2 returns returns-2)
+position-spec =
+    tie.close (tie.spec enum-told enum-told-2 array-read-result cast-result returns returns-2)

@@ -1,11 +1,11 @@
 -- `table::search::first_wrong_alone` meets its contract. The invariant: no object passed is wrong, and `depth` is the sum so far.
 -- Assumes nothing.
-use borrow.Author.Tests.{not-true, not-false, leb-true}
-use Rattle.table.proofs.Facts.{object-facts}
+use borrow.Author.Tests.{not-true, not-false}
+use Rattle.table.proofs.Facts.{object-facts, byte-facts}
 use mathlib.Core.Bool.{false, _||_}
 use mathlib.Core.Path.{_≡_, refl, sym, _∙_}
 use Prim.Native.Nat.{ℕ, _-_, _≤_, _<_}
-use borrow.Author.Tests.{not-true, not-false, leb-true}
+use borrow.Author.Tests.{not-true, not-false}
 use borrow.Author.Count.{below-more}
 use Rattle.memory.proofs.Search.{least-at, least-none}
 use Rattle.table.specs.Check.{wrongAlone, pastDepth, depths}
@@ -45,7 +45,7 @@ returns c =
 add-depth : tie.Need-add-depth Inv-loop μ-loop
 add-depth c =
     let small : c .before .before .before .before .object-record .result .depth ≤ 16 =
-    leb-true _ 16 (object-facts _ _ (sym (c .before .before .object-right .ensures) ∙ not-false _ (c .before .if1 .left)) .depths) in
+    byte-facts (c .before .before .before .before .object-record .result) (object-facts (c .before .before .before .before .object-record .result) _ (sym (c .before .before .object-right .ensures) ∙ not-false _ (c .before .if1 .left)) .bytes) .depths in
     omega (arith, small, c .before .before .before .before .before .before .loop .inv .2)
 
 returns-2 : tie.Need-returns-2 Inv-loop μ-loop

@@ -1,9 +1,9 @@
--- `packing_exports::order_of` meets its contract.
+-- `exports::order_of` meets its contract.
 -- Assumes nothing.
 use borrow.Author.Tests.{eq-eqb, ne-eqb}
-use Rattle.packing_exports.specs.Orders.{orderOf}
-use Rattle.packing_exports.proofs.order_of.Statement.{statement}
-use Rattle.packing_exports.proofs.order_of.Tie as tie
+use Rattle.exports.specs.Orders.{orderOf}
+use Rattle.exports.proofs.order_of.Statement.{statement}
+use Rattle.exports.proofs.order_of.Tie as tie
 
 returns : tie.Need-returns
 unfolding orderOf

@@ -1,13 +1,16 @@
-// Packing of a slot for callers in C and Rust: the benchmark and the tests link it.
+// The proved libraries under C names, for callers in C and Rust: the benchmarks and the tests link it.
 use bits::BitSize;
 use bits::Order;
+use table::Verdict;
 ghost use mathlib.Core.Path.{_≡_};
 ghost use Prim.Native.Nat.{_≤_, _<_};
 ghost use lib.ListN.{length};
 ghost use Rattle.memory.specs.Bytes.{part, replaced};
 ghost use Rattle.bits.specs.Bits.{packed, unpacked};
 ghost use Rattle.bits.specs.Slots.{position, InSlot};
-ghost use Rattle.packing_exports.specs.Orders.{orderOf};
+ghost use Rattle.table.specs.Check.{check, placeOf};
+ghost use Rattle.exports.specs.Orders.{orderOf};
+ghost use Rattle.exports.specs.Answers.{answerOf};
 
 // 0 is little, anything else big.
 fn order_of(order: u32) -> Order
@@ -48,4 +51,43 @@ pub extern "C" fn birnenschloss_unpack_slot(slot: &[u8], order: u32, at: u32, si
     ensures { λ r. ⌜ r ≡ unpacked (orderOf order) (position (orderOf order) at) size (part 0 8 (now (slot .entry))) ⌝ }
 {
     bits::unpack_slot(slot, 0, order_of(order), at, BitSize(size))
+}
+
+// A number of document 01 and what is returned with it.
+#[repr(C)]
+pub struct Answer {
+    pub number: u32,
+    pub value: u32,
+}
+
+// The check of a table: 0, or 5 with the place of the first wrong record.
+#[no_mangle]
+pub extern "C" fn birnenschloss_check(table: &[u8]) -> Answer
+    ensures { λ r. ⌜ r ≡ answerOf (check (now (table .entry))) ⌝ }
+{
+    answer_of(table::check(table))
+}
+
+fn answer_of(verdict: Verdict) -> Answer
+    requires { ⌜ placeOf verdict ≤ 65535 ⌝ }
+    ensures { λ r. ⌜ r ≡ answerOf verdict ⌝ }
+{
+    match verdict {
+        Verdict::Accepted(_) => Answer {
+            number: 0,
+            value: 0,
+        },
+        Verdict::WrongHeader => Answer {
+            number: 5,
+            value: 65535,
+        },
+        Verdict::WrongIpdu(k) => Answer {
+            number: 5,
+            value: k.0,
+        },
+        Verdict::WrongObject(i) => Answer {
+            number: 5,
+            value: 256 + i.0,
+        },
+    }
 }
