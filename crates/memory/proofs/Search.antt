@@ -116,3 +116,11 @@ least-before n f k h = go (found n f)
 pub least-ext : (n : ℕ) (f g : ℕ → Bool) → ((k : ℕ) → f k ≡ g k) → least n f ≡ least n g
 least-ext zero f g e = refl
 least-ext (suc n) f g e = rw (e 0, least-ext n (λ k. f (suc k)) (λ k. g (suc k)) (λ k. e (suc k)))
+
+-- a number that has the test
+pub any-true : (n : ℕ) (f : ℕ → Bool) → any n f ≡ true → (k : ℕ) × (k < n) × (f k ≡ true)
+any-true n f e = go (found n f)
+  where
+    go : Found n f → (k : ℕ) × (k < n) × (f k ≡ true)
+    go (there i h none here) = (i, h, here)
+    go (nowhere none) = absurd (true-not-false e (any-none n f none))

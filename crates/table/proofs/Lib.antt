@@ -2,3 +2,4 @@ pub mod Facts
 pub mod Overlaps
 pub mod Turns
 pub mod Verdicts
+pub mod Walk

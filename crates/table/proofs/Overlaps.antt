@@ -7,7 +7,7 @@ use mathlib.Core.Path.{_≡_, refl, sym, ap, _∙_}
 use Prim.Native.Nat.{ℕ, zero, suc, _+_, _≤_, _<_, _^_}
 use native.Mathlib.Numerals.{add-one}
 use native.Mathlib.Omega.{arith}
-use borrow.Author.Tests.{eq-eqb, ne-eqb, not-true}
+use borrow.Author.Tests.{eq-eqb, ne-eqb, not-true, not-false}
 use lib.Bits.{bitAnd, bitOr, or-lt}
 use lib.Dec.{eqb}
 use lib.ListN.{length, getD, set, replicate, length-set, getD-replicate, List·getD-eq-default}
@@ -15,7 +15,7 @@ use lib.Pow.{pow-pos}
 use lib.Seq.{getD-set-same, getD-set-other}
 use Rattle.memory.specs.Search.{pick, any}
 use Rattle.memory.proofs.Tests.{true-or-false, true-not-false, eq-or-ne, lt-or-le, and-split}
-use Rattle.memory.proofs.Search.{any-none, any-some, any-false}
+use Rattle.memory.proofs.Search.{any-none, any-some, any-false, any-true}
 use Rattle.bits.proofs.Numbers.{bit-of-zero}
 use Rattle.bits.specs.Slots.{position}
 use Rattle.bits.proofs.Places.{Run, position-twice}
@@ -173,3 +173,47 @@ module _ (t : List ℕ) (ipdus end : ℕ) (placed : (i : ℕ) → i < end → is
           let claims : any i (owner t ipdus (r .ipdu) p) ≡ true =
           any-some i (owner t ipdus (r .ipdu) p) j below (rw (sents .0, same .1, own)) in
           rw claims at (any-false 64 (λ q. any i (owner t ipdus (r .ipdu) q) && ownsBit r q) clean p low))))
+
+  -- an object whose bits were not free shares one with a lower one
+  pub taken-lower : (i : ℕ) → i < end → clear (usedAfter t ipdus i) (objectRecord t ipdus i) ≡ false → overlapsLower t ipdus i ≡ true
+  unfolding overlapsLower shareBit
+  taken-lower i h taken = ⊎-elim meets (λ unsent. absurd (idle unsent)) (true-or-false (isSent r))
+    where
+      r : ObjectRecord
+      r = objectRecord t ipdus i
+
+      w : Words t ipdus i
+      w = words i (omega arith)
+
+      idle : isSent r ≡ false → ⊥
+      idle e = let z : true ≡ false = rw e at taken in true-not-false {b = true} refl z
+
+      owner-shares : (p j : ℕ) → p < 64 → j < i → isSent r ≡ true → ownsBit r p ≡ true → owner t ipdus (r .ipdu) p j ≡ true
+          → any i (λ k. shareBit (objectRecord t ipdus k) r) ≡ true
+      owner-shares p j low below sent own e =
+          let s : ObjectRecord = objectRecord t ipdus j in
+          let last = and-split (isSent s && eqb (s .ipdu) (r .ipdu)) (ownsBit s p) e in
+          let first = and-split (isSent s) (eqb (s .ipdu) (r .ipdu)) (last .0) in
+          let bit : any 64 (λ q. ownsBit s q && ownsBit r q) ≡ true =
+          any-some 64 (λ q. ownsBit s q && ownsBit r q) p low (rw (last .1, own)) in
+          any-some i (λ k. shareBit (objectRecord t ipdus k) r) j below (rw (first .0, sent, first .1, bit))
+
+      bit-shares : (p : ℕ) → p < 64 → isSent r ≡ true → (any i (owner t ipdus (r .ipdu) p) && ownsBit r p) ≡ true
+          → any i (λ k. shareBit (objectRecord t ipdus k) r) ≡ true
+      bit-shares p low sent e =
+          let both = and-split (any i (owner t ipdus (r .ipdu) p)) (ownsBit r p) e in
+          let j = any-true i (owner t ipdus (r .ipdu) p) (both .0) in
+          owner-shares p (j .0) low (j .1) sent (both .1) (j .2)
+
+      meets : isSent r ≡ true → any i (λ k. shareBit (objectRecord t ipdus k) r) ≡ true
+      meets sent =
+          let pl : Placed r = placed i h sent in
+          let some : eqb (bitAnd (getD (usedAfter t ipdus i) (r .ipdu) 0) (maskOf r)) 0 ≡ false = rw sent at taken in
+          let met : any 64 (λ p. any i (owner t ipdus (r .ipdu) p) && ownsBit r p) ≡ true =
+          not-false _
+          (sym
+          (words-share (getD (usedAfter t ipdus i) (r .ipdu) 0) (maskOf r) (λ q. any i (owner t ipdus (r .ipdu) q)) (ownsBit r)
+          (w .small (r .ipdu)) (w .bits (r .ipdu) (pl .ipdu)) (mask-describes r pl))
+          ∙ some) in
+          let p = any-true 64 (λ p. any i (owner t ipdus (r .ipdu) p) && ownsBit r p) met in
+          bit-shares (p .0) (p .1) sent (p .2)

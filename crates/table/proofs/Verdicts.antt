@@ -1,6 +1,6 @@
--- From a right header to the table's shape, and from the searches to the first wrong object.
+-- From a right header to the table's shape, and from what the searches found to what the check answers.
 -- Assumes nothing.
-use mathlib.Core.Bool.{Bool, true, false, _&&_, _||_}
+use mathlib.Core.Bool.{Bool, true, false, _&&_}
 use mathlib.Core.List.{List}
 use mathlib.Core.Logic.{⊎-elim}
 use mathlib.Core.Path.{_≡_, refl, sym, ap, _∙_}
@@ -11,13 +11,13 @@ use lib.Dec.{leb, ltb, eqb}
 use lib.ListN.{length}
 use Rattle.memory.specs.Bytes.{get}
 use Rattle.memory.specs.Search.{least}
-use Rattle.memory.proofs.Search.{least-or, least-ext, least-le, least-before, least-none}
-use Rattle.memory.proofs.Tests.{and-split, or-split, true-or-false}
+use Rattle.memory.proofs.Search.{least-before}
+use Rattle.memory.proofs.Tests.{and-split, true-or-false}
 use Rattle.table.specs.declared.Counts.{Counts}
 use Rattle.table.specs.declared.Verdict.the-variants.{Accepted, WrongIpdu, WrongObject}
 use Rattle.table.specs.Records.{ipduBase, objectBase, total, counts}
 use Rattle.table.specs.Rules.{offsetsRight, headerRight}
-use Rattle.table.specs.Check.{Shape, RightAlone, wrongIpdu, wrongAlone, pastDepth, overlapsLower, wrongObject, checkObjects, checkIpdus, checkRecords, check, placeOf}
+use Rattle.table.specs.Check.{Shape, wrongIpdu, wrongObject, checkObjects, checkIpdus, checkRecords, check, placeOf}
 
 pub header-long : (t : List ℕ) → headerRight t ≡ true → 16 ≤ length t
 unfolding headerRight
@@ -43,34 +43,6 @@ header-shape t e =
     let a3 = and-split (b1 && b2) b3 (a4 .0) in
     let a2 = and-split b1 b2 (a3 .0) in
     record { ipdus = leb-true _ _ (a2 .0); objects = leb-true _ _ (a2 .1); long = eqb-true _ _ (a8 .1) }
-
-module _ (t : List ℕ) (c : Counts) where
-  -- the objects below the first that is wrong by itself or in the depth sum
-  abbrev alone : ℕ → Bool
-  alone i = wrongAlone t c i || pastDepth t c i
-
-  pub right-below : Shape t c → ((k : ℕ) → k < c .ipdus → wrongIpdu t k ≡ false) → RightAlone t c (least (c .objects) alone)
-  right-below shape ipdus =
-      record {
-        shape = shape;
-        within = least-le (c .objects) alone;
-        ipdus = ipdus;
-        alone = λ i h. or-split (wrongAlone t c i) (pastDepth t c i) (least-before (c .objects) alone i h) .0;
-      }
-
-  -- the first wrong object is the first that overlaps a lower one among those
-  pub first-wrong : least (c .objects) (wrongObject t c) ≡ least (least (c .objects) alone) (overlapsLower t (c .ipdus))
-  first-wrong =
-      least-ext (c .objects) (wrongObject t c) (λ i. alone i || overlapsLower t (c .ipdus) i)
-      (λ i. last (wrongAlone t c i) (overlapsLower t (c .ipdus) i) (pastDepth t c i))
-      ∙ least-or (c .objects) alone (overlapsLower t (c .ipdus))
-    where
-      last : (a b d : Bool) → (a || b || d) ≡ (a || d || b)
-      last true b d = refl
-      last false true true = refl
-      last false true false = refl
-      last false false true = refl
-      last false false false = refl
 
 -- ---- what the check answers, from what the searches found
 

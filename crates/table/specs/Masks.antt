@@ -1,16 +1,18 @@
 -- Masks of the bits that send objects own: what the code of `overlap` computes. proofs/Overlaps.antt shows what it says of
 -- shared bits. Assumes nothing.
-use mathlib.Core.Bool.{Bool, true}
+use mathlib.Core.Bool.{Bool, true, false}
+use mathlib.Core.Path.{_≡_}
 use mathlib.Core.List.{List}
-use Prim.Native.Nat.{ℕ, _<_}
+use Prim.Native.Nat.{ℕ, _+_, _<_}
 use lib.Bits.{bitAnd, bitOr}
 use lib.Dec.{eqb}
 use lib.ListN.{getD, set}
-use Rattle.memory.specs.Search.{pick}
+use Rattle.memory.specs.Search.{pick, least}
 use Rattle.bits.specs.Slots.{position, mask, InSlot}
+use Rattle.table.specs.declared.Counts.{Counts}
 use Rattle.table.specs.declared.ObjectRecord.{ObjectRecord}
 use Rattle.table.specs.Rules.{orderOf}
-use Rattle.table.specs.Check.{isSent}
+use Rattle.table.specs.Check.{RightAlone, isSent, overlapsLower, wrongObject}
 
 -- the object's bits lie in the slot of an I-PDU
 pub record Placed (r : ObjectRecord) : Type 0 where
@@ -27,3 +29,10 @@ clear used r = pick (isSent r) (eqb (bitAnd (getD used (r .ipdu) 0) (maskOf r)) 
 
 abbrev pub claimed : List ℕ → ObjectRecord → List ℕ
 claimed used r = pick (isSent r) (set used (r .ipdu) (bitOr (getD used (r .ipdu) 0) (maskOf r))) used
+
+-- the walk over the objects ended at the first wrong one; where its bits were not free, it is right by itself and overlaps a
+-- lower one
+pub record Ended (t : List ℕ) (c : Counts) (end : ℕ) (free : Bool) : Type 0 where
+  pub first : end ≡ least (c .objects) (wrongObject t c)
+  pub alone : free ≡ false → RightAlone t c (end + 1)
+  pub overlap : free ≡ false → overlapsLower t (c .ipdus) end ≡ true

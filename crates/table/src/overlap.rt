@@ -3,35 +3,14 @@ use super::Counts;
 use super::ObjectNumber;
 use super::ObjectRecord;
 use bits::BitSize;
-ghost use mathlib.Core.Bool.{true, false};
+ghost use mathlib.Core.Bool.{true};
 ghost use mathlib.Core.Path.{_≡_};
-ghost use Prim.Native.Nat.{ℕ, _<_};
-ghost use lib.ListN.{length};
 ghost use Rattle.memory.specs.Search.{least};
 ghost use Rattle.table.specs.Check.{RightAlone, isSent, shareBit, overlapsLower};
 ghost use Rattle.table.specs.Masks.{Placed, maskOf, clear, claimed};
 
-// Whether no object below `end` shares a bit with a lower one: one word of claimed bits for each I-PDU. It may answer false
-// for a table with no overlap, and then only costs time.
-pub(crate) fn none_below(t: &[u8], c: Counts, end: u32) -> bool
-    requires { ⌜ RightAlone (now t) c end ⌝ }
-    ensures { λ r. ⌜ (r ≡ true → (i : ℕ) → i < end → overlapsLower (now (t .entry)) (c .ipdus) i ≡ false) ⌝ }
-{
-    let n = c.ipdus;
-    let mut used = [0u64; 32];
-    let mut i = 0;
-    while i < end {
-        let r = super::object_record(t, n, ObjectNumber(i));
-        if !claim(&mut used, r) {
-            return false;
-        }
-        i += 1;
-    }
-    true
-}
-
 // Claims the bits of a send object in its I-PDU's word, and says whether they were free.
-fn claim(used: &mut [u64; 32], r: ObjectRecord) -> bool
+pub(crate) fn claim(used: &mut [u64; 32], r: ObjectRecord) -> bool
     requires { ⌜ (isSent r ≡ true → Placed r) ⌝ }
     ensures { λ b. ⌜ b ≡ clear (now (used .entry)) r ⌝ }
     ensures { λ b. ⌜ now (used .exit) ≡ claimed (now (used .entry)) r ⌝ }

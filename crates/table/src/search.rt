@@ -5,14 +5,15 @@ use super::ObjectNumber;
 use super::ObjectRecord;
 use super::References;
 use super::Verdict;
-ghost use mathlib.Core.Bool.{false, _||_};
+ghost use mathlib.Core.Bool.{false};
 ghost use mathlib.Core.Path.{_≡_};
 ghost use Prim.Native.Nat.{ℕ, _<_};
 ghost use Rattle.memory.specs.Search.{pick, least};
 ghost use lib.Dec.{ltb};
 ghost use Rattle.table.specs.Records.{objectRecord};
 ghost use Rattle.table.specs.Rules.{references};
-ghost use Rattle.table.specs.Check.{Shape, RightAlone, wrongIpdu, wrongAlone, pastDepth, wrongObject, check};
+ghost use Rattle.table.specs.Check.{Shape, wrongIpdu, wrongObject, check};
+ghost use Rattle.table.specs.Masks.{Ended};
 
 // Names the first wrong record of a slice of any length, or accepts it with its counts.
 pub fn check(t: &[u8]) -> Verdict
@@ -49,40 +50,57 @@ fn first_wrong_ipdu(t: &[u8], c: Counts) -> u32
     k
 }
 
-// The lowest object that is wrong, or the number of objects. The pairs are searched only where an overlap was met.
+// The lowest object that is wrong, or the number of objects. The pairs are searched only where the walk met an overlap, to
+// name it.
 fn first_wrong_object(t: &[u8], c: Counts) -> u32
     requires { ⌜ Shape (now t) c ⌝ }
     requires { ⌜ ((k : ℕ) → k < c .ipdus → wrongIpdu (now t) k ≡ false) ⌝ }
     ensures { λ r. ⌜ r ≡ least (c .objects) (wrongObject (now (t .entry)) c) ⌝ }
 {
-    let end = first_wrong_alone(t, c);
-    if super::overlap::none_below(t, c, end) {
+    let w = walk(t, c);
+    let end = w.end;
+    if w.free {
         return end;
     }
-    super::overlap::first_pair(t, c, end)
+    super::overlap::first_pair(t, c, end + 1)
 }
 
-// The lowest object that is wrong by itself or carries the depth sum past 512, or the number of objects.
-fn first_wrong_alone(t: &[u8], c: Counts) -> u32
+// Where the walk over the objects ended, and whether the bits of the object there were free.
+struct WalkEnd {
+    end: u32,
+    free: bool,
+}
+
+// Walks over the objects up to the first that is wrong: by itself, in the depth sum, or in the bits that it claims of its
+// I-PDU's word.
+fn walk(t: &[u8], c: Counts) -> WalkEnd
     requires { ⌜ Shape (now t) c ⌝ }
-    ensures { λ r. ⌜ r ≡ least (c .objects) (λ i. wrongAlone (now (t .entry)) c i || pastDepth (now (t .entry)) c i) ⌝ }
+    requires { ⌜ ((k : ℕ) → k < c .ipdus → wrongIpdu (now t) k ≡ false) ⌝ }
+    ensures { λ r. ⌜ Ended (now (t .entry)) c (r .end) (r .free) ⌝ }
 {
     let n = c.ipdus;
     let m = c.objects;
+    let mut used = [0u64; 32];
     let mut depth = 0;
     let mut i = 0;
     while i < m {
         let r = super::object_record(t, n, ObjectNumber(i));
         if !super::object_right(r, references(t, c, r)) {
-            return i;
+            return WalkEnd { end: i, free: true };
         }
         depth += r.depth;
         if 512 < depth {
-            return i;
+            return WalkEnd { end: i, free: true };
+        }
+        if !super::overlap::claim(&mut used, r) {
+            return WalkEnd {
+                end: i,
+                free: false,
+            };
         }
         i += 1;
     }
-    i
+    WalkEnd { end: i, free: true }
 }
 
 // What the record of an object refers to.
