@@ -1,4 +1,4 @@
--- What a right record says, field by field, and what an accepted table gives to its users: `Right`.
+-- What a right record says, field by field.
 -- Assumes nothing.
 use mathlib.Core.Bool.{Bool, true, false, not, _&&_, _||_}
 use mathlib.Core.Logic.{⊎-elim}
@@ -10,7 +10,7 @@ use borrow.Author.Tests.{leb-true, ltb-true, eqb-true, eqb-false, ne-eqb, le-ltb
 use lib.Dec.{leb, ltb, eqb}
 use lib.ListN.{length}
 use Rattle.memory.specs.Search.{pick}
-use Rattle.memory.proofs.Tests.{and-split, true-or-false, lt-or-le}
+use Rattle.memory.proofs.Tests.{and-split, true-not-false, lt-or-le}
 use Rattle.bits.specs.Bits.{room}
 use Rattle.bits.specs.Slots.{position, InSlot}
 use Rattle.bits.proofs.Places.{Run, run, room-slot}
@@ -107,37 +107,63 @@ ipdu-facts r e =
 
 -- ---- where a send object's bits lie
 
-or-right : (a b : Bool) → a ≡ false → (a || b) ≡ true → b ≡ true
+pub or-right : (a b : Bool) → a ≡ false → (a || b) ≡ true → b ≡ true
 or-right true b z e = let w : true ≡ false = z in cc
 or-right false b z e = e
 
 -- a number that a lookup gave is above 0 only where the record exists
-picked : (b : Bool) (n : ℕ) → pick b n 0 ≡ 1 → b ≡ true
-picked true n e = refl
-picked false n e = let w : _≡_ {A = ℕ} 0 1 = e in absurd (omega arith)
+pub picked : (b : Bool) (n k : ℕ) → 0 < k → pick b n 0 ≡ k → b ≡ true
+picked true n k h e = refl
+picked false n k h e = let w : 0 ≡ k = e in absurd (omega arith)
 
-module _ (t : List ℕ) (c : Counts) (end : ℕ) (right : RightAlone t c end) where
-  ipdu-right : (k : ℕ) → k < c .ipdus → IpduFacts (ipduRecord t k)
-  ipdu-right k h = ipdu-facts (ipduRecord t k) (not-false _ (right .ipdus k h))
+-- a right object is sent or received
+kind-some : (r : ObjectRecord) → (sendObject r || receiveObject r) ≡ true → 0 < r .kind
+kind-some r e =
+    ⊎-elim
+    (λ (h : 0 < r .kind). h)
+    (λ (h : r .kind ≤ 0).
+    let z : r .kind ≡ 0 = omega arith in
+    let f : false ≡ true = rw z at e in
+    absurd (true-not-false {b = false} f refl))
+    (lt-or-le 0 (r .kind))
 
-  pub placed : (i : ℕ) → i < end → isSent (objectRecord t (c .ipdus) i) ≡ true → Placed (objectRecord t (c .ipdus) i)
-  unfolding references
-  placed i h sent =
-      let r = objectRecord t (c .ipdus) i in
-      let x = references t c r in
-      let facts = object-facts r x (not-false _ (right .alone i h)) in
-      let kind : r .kind ≡ 1 = eqb-true _ _ (and-split (eqb (r .kind) 1) (not (eqb (r .ipdu) 255)) sent .0) in
-      let some : eqb (r .ipdu) 255 ≡ false = not-true _ (and-split (eqb (r .kind) 1) (not (eqb (r .ipdu) 255)) sent .1) in
-      let away : withoutIpdu r ≡ false = rw some in
-      let within : withinIpdu r x ≡ true = or-right (withoutIpdu r) (withinIpdu r x) away (facts .places) in
-      let parts = and-split (eqb (x .direction) (r .kind)) (room (orderOf (r .order)) (r .start) (r .size) (x .length)) within in
-      let exists : ltb (r .ipdu) (c .ipdus) ≡ true = picked _ _ (eqb-true _ _ (parts .0) ∙ kind) in
-      let number : r .ipdu < c .ipdus = ltb-true _ _ exists in
-      let length : x .length ≤ 8 = rw exists (ipdu-right (r .ipdu) number .most) in
-      let bytes = byte-facts r (facts .bytes) in
-      let along = run (orderOf (r .order)) (r .start) (r .size) (bytes .least) (room-slot (orderOf (r .order)) (r .start) (r .size) (x .length) length (parts .1)) in
-      record {
-        ipdu = omega (arith, right .shape .ipdus);
-        start = along .begins;
-        slot = record { some = bytes .least; most = bytes .most; inside = along .ends };
-      }
+-- an object's bits lie in its I-PDU, which has its direction
+pub record InIpdu (t : List ℕ) (c : Counts) (r : ObjectRecord) : Type 0 where
+  pub number : r .ipdu < c .ipdus
+  pub direction : ipduRecord t (r .ipdu) .direction ≡ r .kind
+  pub start : r .start < 64
+  pub slot : InSlot (position (orderOf (r .order)) (r .start)) (r .size)
+
+pub in-ipdu : (t : List ℕ) (c : Counts) → ((k : ℕ) → k < c .ipdus → ipduRight (ipduRecord t k) ≡ true) → (r : ObjectRecord)
+    → ObjectFacts r (references t c r) → withinIpdu r (references t c r) ≡ true → InIpdu t c r
+unfolding references
+in-ipdu t c ipdus r facts within =
+    let x = references t c r in
+    let parts = and-split (eqb (x .direction) (r .kind)) (room (orderOf (r .order)) (r .start) (r .size) (x .length)) within in
+    let same : x .direction ≡ r .kind = eqb-true _ _ (parts .0) in
+    let exists : ltb (r .ipdu) (c .ipdus) ≡ true = picked _ _ (r .kind) (kind-some r (facts .kinds)) same in
+    let number : r .ipdu < c .ipdus = ltb-true _ _ exists in
+    let short : x .length ≤ 8 = rw exists (ipdu-facts (ipduRecord t (r .ipdu)) (ipdus (r .ipdu) number) .most) in
+    let bytes = byte-facts r (facts .bytes) in
+    let along =
+    run (orderOf (r .order)) (r .start) (r .size) (bytes .least)
+    (room-slot (orderOf (r .order)) (r .start) (r .size) (x .length) short (parts .1)) in
+    record {
+      number = number;
+      direction = rw exists at same;
+      start = along .begins;
+      slot = record { some = bytes .least; most = bytes .most; inside = along .ends };
+    }
+
+-- a send object with an I-PDU
+pub placed : (t : List ℕ) (c : Counts) (end : ℕ) → RightAlone t c end → (i : ℕ) → i < end
+    → isSent (objectRecord t (c .ipdus) i) ≡ true → Placed (objectRecord t (c .ipdus) i)
+placed t c end right i h sent =
+    let r = objectRecord t (c .ipdus) i in
+    let facts = object-facts r (references t c r) (not-false _ (right .alone i h)) in
+    let some : eqb (r .ipdu) 255 ≡ false = not-true _ (and-split (eqb (r .kind) 1) (not (eqb (r .ipdu) 255)) sent .1) in
+    let away : withoutIpdu r ≡ false = rw some in
+    let here =
+    in-ipdu t c (λ k b. not-false _ (right .ipdus k b)) r facts
+    (or-right (withoutIpdu r) (withinIpdu r (references t c r)) away (facts .places)) in
+    record { ipdu = omega (arith, here .number, right .shape .ipdus); start = here .start; slot = here .slot }

@@ -3,3 +3,4 @@ pub mod Overlaps
 pub mod Turns
 pub mod Verdicts
 pub mod Walk
+pub mod Accepted

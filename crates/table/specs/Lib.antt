@@ -2,3 +2,4 @@ pub mod Records
 pub mod Rules
 pub mod Check
 pub mod Masks
+pub mod Decode

@@ -1,0 +1,97 @@
+// Records of an accepted table as structs that hold what they mean.
+use super::Direction;
+use super::Ipdu;
+use super::IpduNumber;
+use super::IpduRecord;
+use super::Mode;
+use super::Object;
+use super::ObjectNumber;
+use super::ObjectRecord;
+use super::Transfer;
+use bits::BitSize;
+use bits::ByteLength;
+ghost use mathlib.Core.Path.{_≡_};
+ghost use Prim.Native.Nat.{_+_, _*_, _≤_, _<_};
+ghost use lib.ListN.{length};
+ghost use Rattle.table.specs.Records.{objectBase, ipduRecord, objectRecord};
+ghost use Rattle.table.specs.Decode.{directionOf, modeOf, transferOf, ipduOf, objectOf};
+
+// An I-PDU of the table.
+pub fn decode_ipdu(t: &[u8], number: IpduNumber) -> Ipdu
+    requires { ⌜ 16 + 16 * (number .0) + 16 ≤ length (now t) ⌝ }
+    ensures { λ r. ⌜ r ≡ ipduOf (ipduRecord (now (t .entry)) (number .0)) ⌝ }
+{
+    ipdu_of(super::ipdu_record(t, number))
+}
+
+// A message object of a table of so many I-PDUs, whose start bit lies in a slot.
+pub fn decode_object(t: &[u8], ipdus: u32, number: ObjectNumber) -> Object
+    requires { ⌜ objectBase ipdus + 32 * (number .0) + 32 ≤ length (now t) ⌝ }
+    requires { ⌜ objectRecord (now t) ipdus (number .0) .start < 64 ⌝ }
+    ensures { λ r. ⌜ r ≡ objectOf (objectRecord (now (t .entry)) ipdus (number .0)) ⌝ }
+{
+    object_of(super::object_record(t, ipdus, number))
+}
+
+fn ipdu_of(r: IpduRecord) -> Ipdu
+    ensures { λ p. ⌜ p ≡ ipduOf r ⌝ }
+{
+    Ipdu {
+        direction: direction_of(r.direction),
+        length: ByteLength(r.length),
+        mode: mode_of(r.mode),
+        period: r.period,
+        offset: r.offset,
+        minimum_delay: r.minimum_delay,
+        deadline: r.deadline,
+        first_deadline: r.first_deadline,
+    }
+}
+
+fn object_of(r: ObjectRecord) -> Object
+    requires { ⌜ r .start < 64 ⌝ }
+    ensures { λ o. ⌜ o ≡ objectOf r ⌝ }
+{
+    let order = super::order_of(r.order);
+    Object {
+        direction: direction_of(r.kind),
+        ipdu: IpduNumber(r.ipdu),
+        sender: ObjectNumber(r.sender),
+        order: order,
+        at: bits::position(order, r.start),
+        size: BitSize(r.size),
+        transfer: transfer_of(r.transfer),
+        depth: r.depth,
+        filter: filter::filter_of(r.filter, r.first, r.second),
+        initial: r.initial,
+    }
+}
+
+fn direction_of(n: u32) -> Direction
+    ensures { λ r. ⌜ r ≡ directionOf n ⌝ }
+{
+    if n == 1 {
+        Direction::Send
+    } else {
+        Direction::Receive
+    }
+}
+
+fn mode_of(n: u32) -> Mode
+    ensures { λ r. ⌜ r ≡ modeOf n ⌝ }
+{
+    if n == 0 {
+        return Mode::Direct;
+    }
+    if n == 1 { Mode::Periodic } else { Mode::Mixed }
+}
+
+fn transfer_of(n: u32) -> Transfer
+    ensures { λ r. ⌜ r ≡ transferOf n ⌝ }
+{
+    if n == 0 {
+        Transfer::Triggered
+    } else {
+        Transfer::Pending
+    }
+}
