@@ -1,14 +1,13 @@
 // The proved libraries under C names, for callers in C and Rust: the benchmarks and the tests link it.
 use bits::BitSize;
 use bits::Order;
-use table::Verdict;
 ghost use mathlib.Core.Path.{_≡_};
 ghost use Prim.Native.Nat.{_≤_, _<_};
 ghost use lib.ListN.{length};
 ghost use Rattle.memory.specs.Bytes.{part, replaced};
 ghost use Rattle.bits.specs.Bits.{packed, unpacked};
 ghost use Rattle.bits.specs.Slots.{position, InSlot};
-ghost use Rattle.table.specs.Check.{check, placeOf};
+ghost use Rattle.table.specs.Check.{check};
 ghost use Rattle.exports.specs.Orders.{orderOf};
 ghost use Rattle.exports.specs.Answers.{answerOf};
 
@@ -65,29 +64,9 @@ pub struct Answer {
 pub extern "C" fn birnenschloss_check(table: &[u8]) -> Answer
     ensures { λ r. ⌜ r ≡ answerOf (check (now (table .entry))) ⌝ }
 {
-    answer_of(table::check(table))
-}
-
-fn answer_of(verdict: Verdict) -> Answer
-    requires { ⌜ placeOf verdict ≤ 65535 ⌝ }
-    ensures { λ r. ⌜ r ≡ answerOf verdict ⌝ }
-{
-    match verdict {
-        Verdict::Accepted(_) => Answer {
-            number: 0,
-            value: 0,
-        },
-        Verdict::WrongHeader => Answer {
-            number: 5,
-            value: 65535,
-        },
-        Verdict::WrongIpdu(k) => Answer {
-            number: 5,
-            value: k.0,
-        },
-        Verdict::WrongObject(i) => Answer {
-            number: 5,
-            value: 256 + i.0,
-        },
+    let verdict = table::check(table);
+    Answer {
+        number: table::number_of(verdict),
+        value: table::place_of(verdict),
     }
 }

@@ -15,7 +15,8 @@ pub use rules::ipdu_right;
 pub use rules::object_right;
 pub use rules::order_of;
 pub use search::check;
-ghost use mathlib.Core.Path.{_≡_};
+pub use search::number_of;
+pub use search::place_of;
 
 // The number of a message object, and of an I-PDU: counted separately.
 pub struct ObjectNumber(pub u32);

@@ -7,12 +7,12 @@ use super::References;
 use super::Verdict;
 ghost use mathlib.Core.Bool.{false};
 ghost use mathlib.Core.Path.{_≡_};
-ghost use Prim.Native.Nat.{ℕ, _<_};
+ghost use Prim.Native.Nat.{ℕ, _≤_, _<_};
 ghost use Rattle.memory.specs.Search.{pick, least};
 ghost use lib.Dec.{ltb};
 ghost use Rattle.table.specs.Records.{objectRecord};
 ghost use Rattle.table.specs.Rules.{references};
-ghost use Rattle.table.specs.Check.{Shape, wrongIpdu, wrongObject, check};
+ghost use Rattle.table.specs.Check.{Shape, wrongIpdu, wrongObject, check, numberOf, placeOf};
 ghost use Rattle.table.specs.Masks.{Ended};
 
 // Names the first wrong record of a slice of any length, or accepts it with its counts.
@@ -32,6 +32,31 @@ pub fn check(t: &[u8]) -> Verdict
         return Verdict::WrongObject(ObjectNumber(i));
     }
     Verdict::Accepted(c)
+}
+
+// Document 01's number for an answer: 0, or 5 where the table is wrong.
+pub fn number_of(verdict: Verdict) -> u32
+    ensures { λ r. ⌜ r ≡ numberOf verdict ⌝ }
+{
+    match verdict {
+        Verdict::Accepted(_) => 0,
+        Verdict::WrongHeader => 5,
+        Verdict::WrongIpdu(_) => 5,
+        Verdict::WrongObject(_) => 5,
+    }
+}
+
+// Document 01's place of the record that an answer names; 0 where the table is accepted.
+pub fn place_of(verdict: Verdict) -> u32
+    requires { ⌜ placeOf verdict ≤ 65535 ⌝ }
+    ensures { λ r. ⌜ r ≡ placeOf verdict ⌝ }
+{
+    match verdict {
+        Verdict::Accepted(_) => 0,
+        Verdict::WrongHeader => 65535,
+        Verdict::WrongIpdu(k) => k.0,
+        Verdict::WrongObject(i) => 256 + i.0,
+    }
 }
 
 // The lowest I-PDU whose record is wrong, or the number of I-PDUs.

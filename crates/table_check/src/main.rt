@@ -9,7 +9,8 @@ const ROOM: usize = 4625;
 fn main() {
     let mut buffer = [0u8; ROOM];
     let n = io::read_full(STDIN_FILENO, &mut buffer);
-    match table::check(&buffer[..n]) {
+    let verdict = table::check(&buffer[..n]);
+    match verdict {
         Verdict::Accepted(c) => {
             io::write_all(STDOUT_FILENO, b"ok ");
             io::print_decimal(STDOUT_FILENO, c.ipdus as u64);
@@ -17,9 +18,7 @@ fn main() {
             io::print_decimal(STDOUT_FILENO, c.objects as u64);
             io::write_all(STDOUT_FILENO, b"\n");
         }
-        Verdict::WrongHeader => print_bad(65535),
-        Verdict::WrongIpdu(k) => print_bad(k.0 as u64),
-        Verdict::WrongObject(i) => print_bad(256 + i.0 as u64),
+        _ => print_bad(table::place_of(verdict) as u64),
     }
 }
 

@@ -1,9 +1,9 @@
--- `exports::answer_of` meets its contract.
+-- `table::search::place_of` meets its contract: a place of at most 65535 leaves room for the sum.
 -- Assumes nothing.
 use native.Mathlib.Omega.{arith}
 use borrow.Author.Needs.{needs}
-use Rattle.exports.proofs.answer_of.Statement.{statement}
-use Rattle.exports.proofs.answer_of.Tie as tie
+use Rattle.table.proofs.search.place_of.Statement.{statement}
+use Rattle.table.proofs.search.place_of.Tie as tie
 
 enum-told : tie.Need-enum-told
 enum-told c = search needs
@@ -17,32 +17,32 @@ enum-known-verdict c = search needs
 enum-known-verdict-2 : tie.Need-enum-known-verdict-2
 enum-known-verdict-2 c = search needs
 
-add-t5 : tie.Need-add-t5
-add-t5 c =
+add-result : tie.Need-add-result
+add-result c =
     let place = rw (c .before .before .verdict2 .given .1) at (c .before .before .before .before .pre) in
     omega (arith, place)
 
 returns : tie.Need-returns
-returns c = rw (c .enum-told .given .1)
+returns c = search needs
 
 returns-2 : tie.Need-returns-2
-returns-2 c = rw (c .enum-told2 .given .1)
+returns-2 c = search needs
 
 returns-3 : tie.Need-returns-3
-returns-3 c = rw (c .before .verdict .given .1)
+returns-3 c = search needs
 
 returns-4 : tie.Need-returns-4
 returns-4 c = rw (c .before .before .verdict2 .given .1)
 
-pub answer-of-spec : {M : Type 1} → statement M
-answer-of-spec =
+pub place-of-spec : {M : Type 1} → statement M
+place-of-spec =
     tie.close
     (tie.spec
     enum-told
     enum-told-2
     enum-known-verdict
     enum-known-verdict-2
-    add-t5
+    add-result
     returns
     returns-2
     returns-3
