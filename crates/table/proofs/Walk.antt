@@ -14,8 +14,8 @@ use Rattle.memory.proofs.Search.{below-suc, least-at, least-none, least-before}
 use Rattle.table.specs.declared.Counts.{Counts}
 use Rattle.table.specs.declared.ObjectRecord.{ObjectRecord}
 use Rattle.table.specs.Records.{objectRecord}
-use Rattle.table.specs.Check.{Shape, RightAlone, isSent, wrongIpdu, wrongAlone, depths, pastDepth, overlapsLower, wrongObject}
-use Rattle.table.specs.Masks.{Placed, clear, claimed, Ended}
+use Rattle.table.specs.Check.{Shape, isSent, wrongIpdu, wrongAlone, depths, pastDepth, overlapsLower, wrongObject}
+use Rattle.table.specs.Masks.{RightAlone, Placed, clear, claimed, Ended}
 use Rattle.table.proofs.Facts.{placed}
 use Rattle.table.proofs.Overlaps.{usedAfter, used-start, used-next, free-lower, taken-lower}
 

@@ -1,9 +1,9 @@
 -- Document 01, "The table": what the check names. The first wrong record, in the order header, I-PDUs, objects.
 -- Assumes nothing.
-use mathlib.Core.Bool.{Bool, true, false, not, _&&_, _||_}
+use mathlib.Core.Bool.{Bool, not, _&&_, _||_}
 use mathlib.Core.List.{List}
 use mathlib.Core.Path.{_≡_}
-use Prim.Native.Nat.{ℕ, suc, _+_, _≤_, _<_}
+use Prim.Native.Nat.{ℕ, suc, _+_, _≤_}
 use lib.Dec.{leb, ltb, eqb}
 use lib.ListN.{length}
 use Rattle.memory.specs.Search.{pick, any, least, sum}
@@ -13,14 +13,16 @@ use Rattle.table.specs.declared.IpduRecord.{IpduRecord}
 use Rattle.table.specs.declared.ObjectRecord.{ObjectRecord}
 use Rattle.table.specs.declared.Verdict.{Verdict}
 use Rattle.table.specs.declared.Verdict.the-variants.{Accepted, WrongHeader, WrongIpdu, WrongObject}
-use Rattle.table.specs.Records.{total, counts, ipduRecord, objectRecord}
+use Rattle.table.specs.Records.{mostIpdus, mostObjects, mostQueued, none, total, counts, ipduRecord, objectRecord}
 use Rattle.table.specs.Rules.{headerRight, ipduRight, references, orderOf, objectRight}
 
 -- a table whose header is right has this shape
 pub record Shape (t : List ℕ) (c : Counts) : Type 0 where
-  pub ipdus : c .ipdus ≤ 32
-  pub objects : c .objects ≤ 128
+  pub ipdus : c .ipdus ≤ mostIpdus
+  pub objects : c .objects ≤ mostObjects
   pub long : length t ≡ total (c .ipdus) (c .objects)
+
+-- ---- what is wrong
 
 abbrev pub wrongIpdu : List ℕ → ℕ → Bool
 wrongIpdu t k = not (ipduRight (ipduRecord t k))
@@ -34,10 +36,11 @@ wrongAlone t c i =
 abbrev pub ownsBit : ObjectRecord → ℕ → Bool
 ownsBit r p = owns (orderOf (r .order)) (r .start) (r .size) p
 
--- two send objects share a bit of an I-PDU
+-- a send object with an I-PDU
 abbrev pub isSent : ObjectRecord → Bool
-isSent r = eqb (r .kind) 1 && not (eqb (r .ipdu) 255)
+isSent r = eqb (r .kind) 1 && not (eqb (r .ipdu) none)
 
+-- two send objects share a bit of an I-PDU
 unfoldable pub shareBit : ObjectRecord → ObjectRecord → Bool
 shareBit r s = isSent r && isSent s && eqb (r .ipdu) (s .ipdu) && any 64 (λ p. ownsBit r p && ownsBit s p)
 
@@ -49,21 +52,16 @@ overlapsLower t ipdus i = any i (λ j. shareBit (objectRecord t ipdus j) (object
 abbrev pub depths : List ℕ → Counts → ℕ → ℕ
 depths t c k = sum k (λ j. objectRecord t (c .ipdus) j .depth)
 
--- an object carries the depth sum past 512
+-- an object carries the depth sum past its limit
 abbrev pub pastDepth : List ℕ → Counts → ℕ → Bool
-pastDepth t c i = ltb 512 (depths t c (suc i))
+pastDepth t c i = ltb mostQueued (depths t c (suc i))
 
--- the objects below `end` are right by themselves, and so are all I-PDUs
-pub record RightAlone (t : List ℕ) (c : Counts) (end : ℕ) : Type 0 where
-  pub shape : Shape t c
-  pub within : end ≤ c .objects
-  pub ipdus : (k : ℕ) → k < c .ipdus → wrongIpdu t k ≡ false
-  pub alone : (i : ℕ) → i < end → wrongAlone t c i ≡ false
-
+-- wrong by itself, overlaps a lower one, or carries the depth sum past its limit
 abbrev pub wrongObject : List ℕ → Counts → ℕ → Bool
 wrongObject t c i = wrongAlone t c i || overlapsLower t (c .ipdus) i || pastDepth t c i
 
--- the lowest I-PDU that is wrong, else the lowest object that is wrong, else none
+-- ---- the first wrong record: the header, else the lowest I-PDU, else the lowest object
+
 abbrev pub checkObjects : List ℕ → Counts → ℕ → Verdict
 checkObjects t c i = pick (ltb i (c .objects)) (WrongObject (record { 0 = i })) (Accepted c)
 
@@ -77,7 +75,7 @@ checkRecords t c = checkIpdus t c (least (c .ipdus) (wrongIpdu t))
 unfoldable pub check : List ℕ → Verdict
 check t = pick (headerRight t) (checkRecords t (counts t)) WrongHeader
 
--- the paper's number for an answer, and what it returns: 5 with the place, 0 with nothing
+-- ---- document 01's number for an answer, and what it returns: 5 with the place, 0 with 0
 abbrev pub numberOf : Verdict → ℕ
 numberOf (Accepted c) = 0
 numberOf WrongHeader = 5

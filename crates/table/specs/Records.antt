@@ -7,7 +7,21 @@ use Rattle.table.specs.declared.Counts.{Counts}
 use Rattle.table.specs.declared.IpduRecord.{IpduRecord}
 use Rattle.table.specs.declared.ObjectRecord.{ObjectRecord}
 
--- a header of counts and offsets comes first, then the I-PDU records, then the object records
+-- limits of the counts and of the sum of the queue depths
+abbrev pub mostIpdus : ℕ
+mostIpdus = 32
+
+abbrev pub mostObjects : ℕ
+mostObjects = 128
+
+abbrev pub mostQueued : ℕ
+mostQueued = 512
+
+-- the number of an I-PDU or a sending object that stands for none
+abbrev pub none : ℕ
+none = 255
+
+-- a header of counts and offsets comes first (16 bytes), then the I-PDU records (16), then the object records (32)
 abbrev pub ipduBase : ℕ
 ipduBase = 16
 

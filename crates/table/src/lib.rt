@@ -18,6 +18,25 @@ pub use search::check;
 pub use search::number_of;
 pub use search::place_of;
 
+// The most I-PDUs and objects that a table has, the most values that its queues hold together, and the number that stands for
+// no I-PDU or no sending object.
+pub const MOST_IPDUS: u32 = 32;
+
+pub const MOST_OBJECTS: u32 = 128;
+
+pub const MOST_QUEUED: u32 = 512;
+
+pub const NONE: u32 = 255;
+
+// Sizes in bytes: of the header and the records, and of the largest table.
+pub const HEADER_SIZE: usize = 16;
+
+pub const IPDU_SIZE: usize = 16;
+
+pub const OBJECT_SIZE: usize = 32;
+
+pub const LARGEST: usize = 4624;
+
 // The number of a message object, and of an I-PDU: counted separately.
 pub struct ObjectNumber(pub u32);
 

@@ -1,13 +1,14 @@
 // Send objects that share a bit of an I-PDU.
 use super::Counts;
+use super::NONE;
 use super::ObjectNumber;
 use super::ObjectRecord;
 use bits::BitSize;
 ghost use mathlib.Core.Bool.{true};
 ghost use mathlib.Core.Path.{_≡_};
 ghost use Rattle.memory.specs.Search.{least};
-ghost use Rattle.table.specs.Check.{RightAlone, isSent, shareBit, overlapsLower};
-ghost use Rattle.table.specs.Masks.{Placed, maskOf, clear, claimed};
+ghost use Rattle.table.specs.Check.{isSent, shareBit, overlapsLower};
+ghost use Rattle.table.specs.Masks.{Placed, RightAlone, maskOf, clear, claimed};
 
 // Claims the bits of a send object in its I-PDU's word, and says whether they were free.
 pub(crate) fn claim(used: &mut [u64; 32], r: ObjectRecord) -> bool
@@ -69,7 +70,7 @@ fn share_bit(r: ObjectRecord, s: ObjectRecord) -> bool
 fn is_sent(r: ObjectRecord) -> bool
     ensures { λ b. ⌜ b ≡ isSent r ⌝ }
 {
-    (r.kind == 1) & !(r.ipdu == 255)
+    (r.kind == 1) & !(r.ipdu == NONE)
 }
 
 // The bits that the object owns, as a mask of its I-PDU's slot.

@@ -1,7 +1,10 @@
 // Reading of the header and of the records, byte by byte.
 use super::Counts;
+use super::HEADER_SIZE;
+use super::IPDU_SIZE;
 use super::IpduNumber;
 use super::IpduRecord;
+use super::OBJECT_SIZE;
 use super::ObjectNumber;
 use super::ObjectRecord;
 ghost use mathlib.Core.Path.{_≡_};
@@ -26,7 +29,7 @@ pub fn ipdu_record(t: &[u8], number: IpduNumber) -> IpduRecord
     ensures { λ r. ⌜ r ≡ ipduRecord (now (t .entry)) (number .0) ⌝ }
 {
     let k = number.0 as usize;
-    let a = 16 + 16 * k;
+    let a = HEADER_SIZE + IPDU_SIZE * k;
     IpduRecord {
         direction: memory::read8(t, a),
         length: memory::read8(t, a + 1),
@@ -48,7 +51,7 @@ pub fn object_record(t: &[u8], ipdus: u32, number: ObjectNumber) -> ObjectRecord
 {
     let n = ipdus as usize;
     let i = number.0 as usize;
-    let a = 16 + 16 * n + 32 * i;
+    let a = HEADER_SIZE + IPDU_SIZE * n + OBJECT_SIZE * i;
     ObjectRecord {
         kind: memory::read8(t, a),
         ipdu: memory::read8(t, a + 1),

@@ -1,6 +1,12 @@
 // When the header and a record are right by themselves. Tests are joined by `&` and `|`, which make no branch.
 use super::Counts;
+use super::HEADER_SIZE;
+use super::IPDU_SIZE;
 use super::IpduRecord;
+use super::MOST_IPDUS;
+use super::MOST_OBJECTS;
+use super::NONE;
+use super::OBJECT_SIZE;
 use super::ObjectRecord;
 use super::References;
 use bits::BitSize;
@@ -16,7 +22,7 @@ ghost use Rattle.table.specs.Rules.{offsetsRight, headerRight, ipduBytes
 pub fn header_right(t: &[u8]) -> bool
     ensures { λ r. ⌜ r ≡ headerRight (now (t .entry)) ⌝ }
 {
-    if t.len() < 16 {
+    if t.len() < HEADER_SIZE {
         return false;
     }
     offsets_right(t, super::header_counts(t))
@@ -28,11 +34,11 @@ fn offsets_right(t: &[u8], c: Counts) -> bool
 {
     let n = c.ipdus as usize;
     let m = c.objects as usize;
-    let objects = 16 + 16 * n;
-    let end = objects + 32 * m;
-    (c.ipdus <= 32)
-        & (c.objects <= 128)
-        & (memory::read16(t, 4) == 16)
+    let objects = HEADER_SIZE + IPDU_SIZE * n;
+    let end = objects + OBJECT_SIZE * m;
+    (c.ipdus <= MOST_IPDUS)
+        & (c.objects <= MOST_OBJECTS)
+        & (memory::read16(t, 4) as usize == HEADER_SIZE)
         & (memory::read16(t, 6) as usize == objects)
         & (memory::read16(t, 8) as usize == end)
         & (memory::read16(t, 10) == 0)
@@ -104,7 +110,7 @@ pub fn object_right(r: ObjectRecord, x: References) -> bool
         return false;
     }
     let filter = filter::filter_right(r.filter, r.first, r.second);
-    ((r.sender == 255) | (x.sender_kind == 1)) & filter
+    ((r.sender == NONE) | (x.sender_kind == 1)) & filter
 }
 
 fn bytes_right(r: ObjectRecord) -> bool
@@ -124,15 +130,15 @@ fn kind_right(r: ObjectRecord) -> bool
     ensures { λ b. ⌜ b ≡ (sendObject r || receiveObject r) ⌝ }
 {
     if r.kind == 1 {
-        return (r.sender == 255) & (r.depth == 0);
+        return (r.sender == NONE) & (r.depth == 0);
     }
-    (r.kind == 2) & (r.transfer == 0) & ((r.ipdu == 255) | (r.sender == 255))
+    (r.kind == 2) & (r.transfer == 0) & ((r.ipdu == NONE) | (r.sender == NONE))
 }
 
 fn place_right(r: ObjectRecord, x: References) -> bool
     ensures { λ b. ⌜ b ≡ (withoutIpdu r || withinIpdu r x) ⌝ }
 {
-    if r.ipdu == 255 {
+    if r.ipdu == NONE {
         if (r.start == 0) & (r.size == 32) & (r.order == 0) {
             return true;
         }

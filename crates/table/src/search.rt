@@ -1,6 +1,7 @@
 // The check that names the first wrong record.
 use super::Counts;
 use super::IpduNumber;
+use super::MOST_QUEUED;
 use super::ObjectNumber;
 use super::ObjectRecord;
 use super::References;
@@ -114,7 +115,7 @@ fn walk(t: &[u8], c: Counts) -> WalkEnd
             return WalkEnd { end: i, free: true };
         }
         depth += r.depth;
-        if 512 < depth {
+        if MOST_QUEUED < depth {
             return WalkEnd { end: i, free: true };
         }
         if !super::overlap::claim(&mut used, r) {

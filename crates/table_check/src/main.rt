@@ -4,7 +4,7 @@ use libc::STDOUT_FILENO;
 use table::Verdict;
 
 // One byte more than the largest table: whatever is longer is a wrong header, as that much of it is.
-const ROOM: usize = 4625;
+const ROOM: usize = table::LARGEST + 1;
 
 fn main() {
     let mut buffer = [0u8; ROOM];

@@ -26,17 +26,20 @@ add-end c = search needs
 read16-requires : tie.Need-read16-requires
 read16-requires c κs = search needs
 
+cast-result : tie.Need-cast-result
+cast-result c = search needs
+
 read16-requires-2 : tie.Need-read16-requires-2
 read16-requires-2 c κs = search needs
 
-cast-result : tie.Need-cast-result
-cast-result c = search needs
+cast-result-2 : tie.Need-cast-result-2
+cast-result-2 c = search needs
 
 read16-requires-3 : tie.Need-read16-requires-3
 read16-requires-3 c κs = search needs
 
-cast-result-2 : tie.Need-cast-result-2
-cast-result-2 c = search needs
+cast-result-3 : tie.Need-cast-result-3
+cast-result-3 c = search needs
 
 read16-requires-4 : tie.Need-read16-requires-4
 read16-requires-4 c κs = search needs
@@ -61,10 +64,11 @@ offsets-right-spec =
     mul-end
     add-end
     read16-requires
-    read16-requires-2
     cast-result
-    read16-requires-3
+    read16-requires-2
     cast-result-2
+    read16-requires-3
+    cast-result-3
     read16-requires-4
     read32-requires
     returns)
