@@ -73,19 +73,6 @@ frame-take zero M b h = refl
 frame-take (suc L) zero b h = absurd (not-suc-le-zero h)
 frame-take (suc L) (suc M) b h = ap (λ (f : List ℕ). number 8 b ∷ f) (frame-take L M (λ k. b (8 + k)) (le-of-suc-le-suc h))
 
--- a frame of bytes is made of its own bits
-pub frame-same : (f : List ℕ) → Bytes f → frame (length f) (frameBit f) ≡ f
-unfolding frame
-frame-same [] bs = refl
-frame-same (b ∷ f) bs =
-    let low : b % 256 ≡ b = omega (arith, bs 0) in
-    cc (
-      number-ext 8 (frameBit (b ∷ f)) (bit b) (frameBit-head b f),
-      number-bits 8 b,
-      frame-ext (length f) (λ k. frameBit (b ∷ f) (8 + k)) (frameBit f) (λ p h. frameBit-tail b f p),
-      frame-same f (λ i. bs (suc i)),
-    )
-
 -- a number and its bytes have the same bits
 pub value-bit : (f : List ℕ) → Bytes f → (p : ℕ) → bit (value f) p ≡ frameBit f p
 unfolding value

@@ -1,14 +1,15 @@
 -- Laws of `value`, `bytesOf`, `get`, `part` and `replaced`.
 -- Assumes nothing.
-use mathlib.Core.Logic.{_⊎_, ⊎-elim}
+use mathlib.Core.Logic.{_⊎_, inl, inr, ⊎-elim}
 use mathlib.Core.Path.{_≡_, refl, sym, ap, _∙_}
 use mathlib.Core.List.{List, [], _∷_, _++_, append-assoc, append-nil}
-use Prim.Native.Nat.{ℕ, zero, suc, _+_, _-_, _*_, _/_, _%_, _^_, _≤_, _<_}
-use native.Mathlib.Nat.{not-suc-le-zero, le-of-suc-le-suc}
+use Prim.Native.Nat.{ℕ, zero, suc, _+_, _-_, _*_, _/_, _%_, _^_, _≤_, _<_, min}
+use native.Mathlib.Nat.{one-le-pow, zero-lt-suc, pow-succ', mul-comm}
 use native.Mathlib.Numerals.{add-one}
 use native.Mathlib.Omega.{arith}
 use lib.ListN.{drop-of-length-le, length, getD, take, drop, length-take, length-drop, length-append, List·getD-append, List·getD-eq-default}
-use lib.Seq.{sets, sets-eq, take-nil, take-all, take-at, drop-at, length-take-le, getD-take, getD-drop, getD-append-add}
+use lib.Arith.{mod-mul}
+use lib.Seq.{ext-getD, sets, sets-eq, take-nil, take-all, take-at, drop-at, length-take-le, getD-take, getD-drop, getD-append-add}
 use Rattle.memory.proofs.Tests.{lt-or-le}
 use Rattle.memory.specs.Bytes.{Bytes, value, bytesOf, part, get, replaced}
 
@@ -110,3 +111,39 @@ replaced-whole f m e =
     let past : length m ≤ 0 + length f = omega arith in
     let all : drop (0 + length f) m ≡ [] = drop-of-length-le m past in
     rw all (append-nil f)
+
+pub value-bytesOf : (k x : ℕ) → value (bytesOf k x) ≡ x % 256 ^ k
+unfolding value bytesOf
+value-bytesOf zero x = omega arith
+value-bytesOf (suc k) x =
+    let halves : x % (256 ^ k * 256) ≡ (x / 256 % 256 ^ k) * 256 + x % 256 =
+    mod-mul x (one-le-pow k 256 (zero-lt-suc 255)) (zero-lt-suc 255) in
+    rw (pow-succ', mul-comm 256 (256 ^ k), halves, value-bytesOf k (x / 256)) (omega arith)
+
+-- what was put there is read there
+pub get-replaced : (k at x : ℕ) (m : List ℕ) → at + k ≤ length m → get k at (replaced at (bytesOf k x) m) ≡ x % 256 ^ k
+unfolding get
+get-replaced k at x m h =
+    let long : length (bytesOf k x) ≡ k = bytesOf-length k x in
+    ap value (rw long at (part-replaced at (bytesOf k x) m (omega arith))) ∙ value-bytesOf k x
+
+-- a part that lies apart from it is as it was
+pub part-apart : (at : ℕ) (f m : List ℕ) (j k : ℕ) → at + length f ≤ length m → (j + k ≤ at) ⊎ (at + length f ≤ j)
+    → part j k (replaced at f m) ≡ part j k m
+unfolding part
+part-apart at f m j k h side =
+    ext-getD 0 (take k (drop j (replaced at f m))) (take k (drop j m))
+    (simp (length-take, length-drop) (ap (λ (n : ℕ). min k (n - j)) (replaced-length at f m h)))
+    (λ i low.
+    let inside : i < k = omega (arith, length-take k (drop j (replaced at f m))) in
+    getD-take k (drop j (replaced at f m)) i 0 inside ∙ getD-drop j (replaced at f m) i 0
+    ∙ replaced-outside at f m (j + i) h (away i inside)
+    ∙ sym (getD-drop j m i 0) ∙ sym (getD-take k (drop j m) i 0 inside))
+  where
+    away : (i : ℕ) → i < k → (j + i < at) ⊎ (at + length f ≤ j + i)
+    away i b = ⊎-elim (λ (before : j + k ≤ at). inl (omega arith)) (λ (after : at + length f ≤ j). inr (omega arith)) side
+
+pub get-apart : (at : ℕ) (f m : List ℕ) (j k : ℕ) → at + length f ≤ length m → (j + k ≤ at) ⊎ (at + length f ≤ j)
+    → get k j (replaced at f m) ≡ get k j m
+unfolding get
+get-apart at f m j k h side = ap value (part-apart at f m j k h side)

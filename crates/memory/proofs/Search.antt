@@ -27,10 +27,6 @@ any-false (suc n) f e k h =
 pub any-some : (n : ℕ) (f : ℕ → Bool) (k : ℕ) → k < n → f k ≡ true → any n f ≡ true
 any-some n f k h e = ⊎-elim (λ t. t) (λ t. absurd (true-not-false e (any-false n f t k h))) (true-or-false (any n f))
 
-pub any-ext : (n : ℕ) (f g : ℕ → Bool) → ((k : ℕ) → k < n → f k ≡ g k) → any n f ≡ any n g
-any-ext zero f g e = refl
-any-ext (suc n) f g e = rw (any-ext n f g (λ k h. e k (omega arith)), e n (le-refl (suc n)))
-
 pub least-none : (n : ℕ) (f : ℕ → Bool) → ((k : ℕ) → k < n → f k ≡ false) → least n f ≡ n
 least-none zero f none = refl
 least-none (suc n) f none =
@@ -57,65 +53,12 @@ found (suc n) f = go (found n f) (true-or-false (f n))
     go (nowhere none) (inl e) = there n (le-refl (suc n)) none e
     go (nowhere none) (inr e) = nowhere (below-suc {P = λ k. f k ≡ false} none e)
 
--- the least with either test is the least with the second among those below the least with the first
-pub least-or : (n : ℕ) (f g : ℕ → Bool) → least n (λ k. f k || g k) ≡ least (least n f) g
-least-or n f g = go (found n f)
-  where
-    or-true : (a b : Bool) → b ≡ true → (a || b) ≡ true
-    or-true true b e = refl
-    or-true false b e = e
-
-    or-false : (a b : Bool) → a ≡ false → (a || b) ≡ b
-    or-false true b e = let z : true ≡ false = e in cc
-    or-false false b e = refl
-
-    or-left : (a b : Bool) → a ≡ true → (a || b) ≡ true
-    or-left true b e = refl
-    or-left false b e = let z : false ≡ true = e in cc
-
-    under : (m : ℕ) → m ≤ n → ((k : ℕ) → k < m → f k ≡ false) → ((m ≡ n) ⊎ ((m < n) × (f m ≡ true))) → Found m g
-        → least n (λ k. f k || g k) ≡ least m g
-    under m le none end (there i h before e) =
-        least-at n (λ k. f k || g k) i (omega arith)
-        (λ k j. or-false (f k) (g k) (none k (omega arith)) ∙ before k j)
-        (or-true (f i) (g i) e)
-        ∙ sym (least-at m g i h before e)
-    under m le none end (nowhere without) =
-        ⊎-elim
-        (λ (all : m ≡ n).
-        least-none n (λ k. f k || g k)
-        (λ k h. or-false (f k) (g k) (none k (omega arith)) ∙ without k (omega arith))
-        ∙ sym all)
-        (λ here.
-        least-at n (λ k. f k || g k) m (here .0)
-        (λ k j. or-false (f k) (g k) (none k j) ∙ without k j)
-        (or-left (f m) (g m) (here .1)))
-        end
-        ∙ sym (least-none m g without)
-
-    go : Found n f → least n (λ k. f k || g k) ≡ least (least n f) g
-    go (there i h none e) =
-        under i (le-of-lt h) none (inr (h, e)) (found i g) ∙ ap (λ (m : ℕ). least m g) (sym (least-at n f i h none e))
-    go (nowhere none) =
-        under n (le-refl n) none (inl refl) (found n g) ∙ ap (λ (m : ℕ). least m g) (sym (least-none n f none))
-
-pub least-le : (n : ℕ) (f : ℕ → Bool) → least n f ≤ n
-least-le n f = go (found n f)
-  where
-    go : Found n f → least n f ≤ n
-    go (there i j none e) = omega (arith, least-at n f i j none e)
-    go (nowhere none) = omega (arith, least-none n f none)
-
 pub least-before : (n : ℕ) (f : ℕ → Bool) (k : ℕ) → k < least n f → f k ≡ false
 least-before n f k h = go (found n f)
   where
     go : Found n f → f k ≡ false
     go (there i j none e) = none k (omega (arith, least-at n f i j none e))
     go (nowhere none) = none k (omega (arith, least-none n f none))
-
-pub least-ext : (n : ℕ) (f g : ℕ → Bool) → ((k : ℕ) → f k ≡ g k) → least n f ≡ least n g
-least-ext zero f g e = refl
-least-ext (suc n) f g e = rw (e 0, least-ext n (λ k. f (suc k)) (λ k. g (suc k)) (λ k. e (suc k)))
 
 -- a number that has the test
 pub any-true : (n : ℕ) (f : ℕ → Bool) → any n f ≡ true → (k : ℕ) × (k < n) × (f k ≡ true)

@@ -63,6 +63,40 @@ pub fn read64(m: &[u8], at: usize) -> u64
     wide(m[at]) + 256 * t
 }
 
+// Puts a number's low byte at `at`.
+pub fn write8(m: &mut [u8], at: usize, x: u32)
+    requires { ⌜ at + 1 ≤ length (now m) ⌝ }
+    ensures { λ _. ⌜ now (m .exit) ≡ replaced at (bytesOf 1 x) (now (m .entry)) ⌝ }
+{
+    m[at] = (x % 256) as u8;
+}
+
+// Puts a number's low two bytes from `at` on.
+pub fn write16(m: &mut [u8], at: usize, x: u32)
+    requires { ⌜ at + 2 ≤ length (now m) ⌝ }
+    ensures { λ _. ⌜ now (m .exit) ≡ replaced at (bytesOf 2 x) (now (m .entry)) ⌝ }
+{
+    let b = at + 1;
+    m[at] = (x % 256) as u8;
+    m[b] = (x / 256 % 256) as u8;
+}
+
+// Puts a number into the four bytes from `at` on.
+pub fn write32(m: &mut [u8], at: usize, x: u32)
+    requires { ⌜ at + 4 ≤ length (now m) ⌝ }
+    ensures { λ _. ⌜ now (m .exit) ≡ replaced at (bytesOf 4 x) (now (m .entry)) ⌝ }
+{
+    let b = at + 1;
+    let c = b + 1;
+    let d = c + 1;
+    let y = x / 256;
+    let z = y / 256;
+    m[at] = (x % 256) as u8;
+    m[b] = (y % 256) as u8;
+    m[c] = (z % 256) as u8;
+    m[d] = (z / 256 % 256) as u8;
+}
+
 // Puts a number into the eight bytes from `at` on.
 pub fn write64(m: &mut [u8], at: usize, x: u64)
     requires { ⌜ at + 8 ≤ length (now m) ⌝ }

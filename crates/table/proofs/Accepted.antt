@@ -10,7 +10,7 @@ use native.Mathlib.Omega.{arith}
 use borrow.Author.Tests.{leb-true, ltb-true, ltb-false, eqb-true, le-ltb, not-false}
 use lib.Dec.{leb, ltb, eqb}
 use Rattle.memory.specs.Search.{pick, least, sum}
-use Rattle.memory.proofs.Search.{least-none, least-before, least-le}
+use Rattle.memory.proofs.Search.{least-none, least-before}
 use Rattle.memory.proofs.Tests.{and-split, or-split, true-or-false}
 use Rattle.bits.specs.Slots.{position, InSlot}
 use Rattle.filter.specs.Filters.{HasPeriod, filterOf}
