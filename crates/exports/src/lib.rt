@@ -1,4 +1,5 @@
-// The proved libraries under C names, for callers in C and Rust: the benchmarks and the tests link it.
+// The proved libraries under C names, for callers in C and Rust: the benchmarks and the tests link it. The functions on a slot
+// check nothing: whoever calls them from outside has to meet their `requires`.
 use bits::BitSize;
 use bits::Order;
 ghost use mathlib.Core.Path.{_≡_};

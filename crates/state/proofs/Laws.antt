@@ -1,0 +1,159 @@
+-- Laws of the stored numbers: what was stored is read, and everything apart from the row is as it was.
+-- Assumes nothing.
+use mathlib.Core.Bool.{true}
+use mathlib.Core.List.{List}
+use mathlib.Core.Logic.{_⊎_, inl, inr, ⊎-elim}
+use mathlib.Core.Path.{_≡_, refl, sym, ap, _∙_}
+use Prim.Native.Nat.{ℕ, _+_, _*_, _^_, _≤_, _<_}
+use native.Mathlib.Nat.{mod-eq-of-lt}
+use native.Mathlib.Omega.{arith}
+use lib.ListN.{length}
+use Rattle.memory.specs.Bytes.{value, get, part}
+use Rattle.memory.specs.Rows.{put}
+use Rattle.memory.proofs.Rows.{put-length, put-apart, put-holds}
+use Rattle.memory.proofs.Tests.{lt-or-le}
+use Rattle.state.specs.declared.IpduState.{IpduState}
+use Rattle.state.specs.declared.ObjectState.{ObjectState}
+use Rattle.state.specs.Layout.{ipduRow, ipduFields, ipduState, withIpduState, objectRow, objectFields, objectState, withObjectState}
+
+-- the numbers fit their bytes
+pub record IpduFits (s : IpduState) : Type 0 where
+  pub requested : s .requested < 256
+  pub wanted : s .wanted < 256
+  pub running : s .running < 256
+  pub delay : s .delay < 2 ^ 16
+  pub deadline : s .deadline < 2 ^ 16
+  pub countdown : s .countdown < 2 ^ 16
+  pub timer : s .timer < 2 ^ 16
+
+pub record ObjectFits (s : ObjectState) : Type 0 where
+  pub value : s .value < 2 ^ 32
+  pub old : s .old < 2 ^ 32
+  pub occurrence : s .occurrence < 256
+  pub marks : s .marks < 256
+  pub overflow : s .overflow < 256
+  pub head : s .head < 256
+  pub count : s .count < 256
+
+module _ (m : List ℕ) (k : ℕ) (s : IpduState) (room : ipduRow k + 16 ≤ length m) where
+  pub ipdu-length : length (withIpduState m k s) ≡ length m
+  unfolding withIpduState
+  ipdu-length = put-length (ipduRow k) 0 16 (ipduFields s) m refl room
+
+  -- apart from the row
+  pub ipdu-part : (j w : ℕ) → (j + w ≤ ipduRow k) ⊎ (ipduRow k + 16 ≤ j) → part j w (withIpduState m k s) ≡ part j w m
+  unfolding withIpduState
+  ipdu-part j w side =
+      put-apart (ipduRow k) 0 16 (ipduFields s) m refl room j w
+      (⊎-elim (λ (b : j + w ≤ ipduRow k). inl (omega arith)) (λ (b : ipduRow k + 16 ≤ j). inr b) side)
+
+  pub ipdu-stored : IpduFits s → ipduState (withIpduState m k s) k ≡ s
+  unfolding withIpduState ipduState
+  ipdu-stored f =
+      let h = put-holds (ipduRow k) 0 16 (ipduFields s) m refl room in
+      rw (
+        h .0,
+        h .1 .0,
+        h .1 .1 .0,
+        h .1 .1 .1 .0,
+        h .1 .1 .1 .1 .0,
+        h .1 .1 .1 .1 .1 .0,
+        h .1 .1 .1 .1 .1 .1 .0,
+        mod-eq-of-lt (f .requested),
+        mod-eq-of-lt (f .wanted),
+        mod-eq-of-lt (f .running),
+        mod-eq-of-lt (f .delay),
+        mod-eq-of-lt (f .deadline),
+        mod-eq-of-lt (f .countdown),
+        mod-eq-of-lt (f .timer),
+      )
+
+module _ (m : List ℕ) (i : ℕ) (s : ObjectState) (room : objectRow i + 16 ≤ length m) where
+  pub object-length : length (withObjectState m i s) ≡ length m
+  unfolding withObjectState
+  object-length = put-length (objectRow i) 0 16 (objectFields s) m refl room
+
+  pub object-part : (j w : ℕ) → (j + w ≤ objectRow i) ⊎ (objectRow i + 16 ≤ j) → part j w (withObjectState m i s) ≡ part j w m
+  unfolding withObjectState
+  object-part j w side =
+      put-apart (objectRow i) 0 16 (objectFields s) m refl room j w
+      (⊎-elim (λ (b : j + w ≤ objectRow i). inl (omega arith)) (λ (b : objectRow i + 16 ≤ j). inr b) side)
+
+  pub object-stored : ObjectFits s → objectState (withObjectState m i s) i ≡ s
+  unfolding withObjectState objectState
+  object-stored f =
+      let h = put-holds (objectRow i) 0 16 (objectFields s) m refl room in
+      rw (
+        h .0,
+        h .1 .0,
+        h .1 .1 .0,
+        h .1 .1 .1 .0,
+        h .1 .1 .1 .1 .0,
+        h .1 .1 .1 .1 .1 .0,
+        h .1 .1 .1 .1 .1 .1 .0,
+        mod-eq-of-lt (f .value),
+        mod-eq-of-lt (f .old),
+        mod-eq-of-lt (f .occurrence),
+        mod-eq-of-lt (f .marks),
+        mod-eq-of-lt (f .overflow),
+        mod-eq-of-lt (f .head),
+        mod-eq-of-lt (f .count),
+      )
+
+-- ---- a row is read from its own 16 bytes alone
+
+pub ipdu-read : (m n : List ℕ) (j : ℕ) → ((o w : ℕ) → o + w ≤ 16 → part (ipduRow j + o) w m ≡ part (ipduRow j + o) w n)
+    → ipduState m j ≡ ipduState n j
+unfolding ipduState get
+ipdu-read m n j e =
+    rw (
+      e 0 1 (omega arith),
+      e 1 1 (omega arith),
+      e 2 1 (omega arith),
+      e 4 2 (omega arith),
+      e 6 2 (omega arith),
+      e 8 2 (omega arith),
+      e 10 2 (omega arith),
+    )
+
+pub object-read : (m n : List ℕ) (j : ℕ) → ((o w : ℕ) → o + w ≤ 16 → part (objectRow j + o) w m ≡ part (objectRow j + o) w n)
+    → objectState m j ≡ objectState n j
+unfolding objectState get
+object-read m n j e =
+    rw (
+      e 0 4 (omega arith),
+      e 4 4 (omega arith),
+      e 8 1 (omega arith),
+      e 9 1 (omega arith),
+      e 10 1 (omega arith),
+      e 11 1 (omega arith),
+      e 12 1 (omega arith),
+    )
+
+-- ---- other rows are as they were
+
+pub ipdu-other : (m : List ℕ) (k : ℕ) (s : IpduState) → ipduRow k + 16 ≤ length m → (j : ℕ) → (j ≡ k → ⊥)
+    → ipduState (withIpduState m k s) j ≡ ipduState m j
+ipdu-other m k s room j ne =
+    ipdu-read (withIpduState m k s) m j
+    (λ o w h.
+    ipdu-part m k s room (ipduRow j + o) w
+    (⊎-elim (λ (b : j < k). inl (omega arith)) (λ (b : k ≤ j). inr (omega (arith, ne))) (lt-or-le j k)))
+
+pub object-other : (m : List ℕ) (i : ℕ) (s : ObjectState) → objectRow i + 16 ≤ length m → (j : ℕ) → (j ≡ i → ⊥)
+    → objectState (withObjectState m i s) j ≡ objectState m j
+object-other m i s room j ne =
+    object-read (withObjectState m i s) m j
+    (λ o w h.
+    object-part m i s room (objectRow j + o) w
+    (⊎-elim (λ (b : j < i). inl (omega arith)) (λ (b : i ≤ j). inr (omega (arith, ne))) (lt-or-le j i)))
+
+pub ipdu-keeps-objects : (m : List ℕ) (k : ℕ) (s : IpduState) → ipduRow k + 16 ≤ length m → k < 32 → (i : ℕ)
+    → objectState (withIpduState m k s) i ≡ objectState m i
+ipdu-keeps-objects m k s room low i =
+    object-read (withIpduState m k s) m i (λ o w h. ipdu-part m k s room (objectRow i + o) w (inr (omega arith)))
+
+pub object-keeps-ipdus : (m : List ℕ) (i : ℕ) (s : ObjectState) → objectRow i + 16 ≤ length m → (k : ℕ) → k < 32
+    → ipduState (withObjectState m i s) k ≡ ipduState m k
+object-keeps-ipdus m i s room k low =
+    ipdu-read (withObjectState m i s) m k (λ o w h. object-part m i s room (ipduRow k + o) w (inl (omega arith)))
