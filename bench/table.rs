@@ -30,7 +30,6 @@ fn large() -> Vec<u8> {
         o[..6].copy_from_slice(&[1, i / 8, 255, 8 * (i % 8), 8, i % 2]);
         o[8] = [0, 2, 5, 8][i as usize % 4];
         o[16] = if i % 2 == 1 { 15 } else { 0 };
-        o[16] = if i % 4 == 2 { 0 } else { o[16] };
         t.extend(o);
     }
     t

@@ -1,4 +1,4 @@
--- Answers at the C boundary: the paper's number, and what is returned with it.
+-- Answers at the C boundary: document 01's number, and what is returned with it.
 -- Assumes nothing.
 use Rattle.exports.specs.declared.Answer.{Answer}
 use Rattle.table.specs.declared.Verdict.{Verdict}

@@ -62,7 +62,7 @@ pub fn filter_of(number: u32, first: u32, second: u32) -> Filter
     }
 }
 
-// Whether a table's record may have this filter number with these two constants. With both zero, only a period is missing.
+// Whether a table's record may have this filter number with these two constants. With both zero, each but 14 is right.
 pub fn filter_right(number: u32, first: u32, second: u32) -> bool
     ensures { λ r. ⌜ r ≡ filterRight number first second ⌝ }
 {

@@ -9,12 +9,12 @@ use native.Mathlib.Nat.{mod-eq-of-lt}
 use native.Mathlib.Omega.{arith}
 use lib.ListN.{length}
 use Rattle.memory.specs.Bytes.{value, get, part}
-use Rattle.memory.specs.Rows.{put}
+use Rattle.memory.specs.Rows.{Field, put, rising}
 use Rattle.memory.proofs.Rows.{put-length, put-apart, put-holds}
 use Rattle.memory.proofs.Tests.{lt-or-le}
 use Rattle.state.specs.declared.IpduState.{IpduState}
 use Rattle.state.specs.declared.ObjectState.{ObjectState}
-use Rattle.state.specs.Layout.{ipduRow, ipduFields, ipduState, withIpduState, objectRow, objectFields, objectState, withObjectState}
+use Rattle.state.specs.Layout.{ipduRows, ipduRow, ipduFields, ipduState, withIpduState, objectRows, objectRow, objectFields, objectState, withObjectState}
 
 -- the numbers fit their bytes
 pub record IpduFits (s : IpduState) : Type 0 where
@@ -35,6 +35,20 @@ pub record ObjectFits (s : ObjectState) : Type 0 where
   pub head : s .head < 256
   pub count : s .count < 256
 
+-- ---- rows of 16 bytes
+
+-- what lies before a row or after it is as it was
+row-part : (a : ℕ) (fs : List Field) (m : List ℕ) → rising 0 16 fs ≡ true → a + 16 ≤ length m → (j w : ℕ)
+    → (j + w ≤ a) ⊎ (a + 16 ≤ j) → part j w (put a fs m) ≡ part j w m
+row-part a fs m e room j w side =
+    put-apart a 0 16 fs m e room j w
+    (⊎-elim (λ (b : j + w ≤ a). inl (omega arith)) (λ (b : a + 16 ≤ j). inr b) side)
+
+-- a part of row j lies before row k or after it
+other-row : (base j k o w : ℕ) → (j ≡ k → ⊥) → o + w ≤ 16 → (base + 16 * j + o + w ≤ base + 16 * k) ⊎ (base + 16 * k + 16 ≤ base + 16 * j + o)
+other-row base j k o w ne h =
+    ⊎-elim (λ (b : j < k). inl (omega arith)) (λ (b : k ≤ j). inr (omega (arith, ne))) (lt-or-le j k)
+
 module _ (m : List ℕ) (k : ℕ) (s : IpduState) (room : ipduRow k + 16 ≤ length m) where
   pub ipdu-length : length (withIpduState m k s) ≡ length m
   unfolding withIpduState
@@ -43,9 +57,7 @@ module _ (m : List ℕ) (k : ℕ) (s : IpduState) (room : ipduRow k + 16 ≤ len
   -- apart from the row
   pub ipdu-part : (j w : ℕ) → (j + w ≤ ipduRow k) ⊎ (ipduRow k + 16 ≤ j) → part j w (withIpduState m k s) ≡ part j w m
   unfolding withIpduState
-  ipdu-part j w side =
-      put-apart (ipduRow k) 0 16 (ipduFields s) m refl room j w
-      (⊎-elim (λ (b : j + w ≤ ipduRow k). inl (omega arith)) (λ (b : ipduRow k + 16 ≤ j). inr b) side)
+  ipdu-part = row-part (ipduRow k) (ipduFields s) m refl room
 
   pub ipdu-stored : IpduFits s → ipduState (withIpduState m k s) k ≡ s
   unfolding withIpduState ipduState
@@ -75,9 +87,7 @@ module _ (m : List ℕ) (i : ℕ) (s : ObjectState) (room : objectRow i + 16 ≤
 
   pub object-part : (j w : ℕ) → (j + w ≤ objectRow i) ⊎ (objectRow i + 16 ≤ j) → part j w (withObjectState m i s) ≡ part j w m
   unfolding withObjectState
-  object-part j w side =
-      put-apart (objectRow i) 0 16 (objectFields s) m refl room j w
-      (⊎-elim (λ (b : j + w ≤ objectRow i). inl (omega arith)) (λ (b : objectRow i + 16 ≤ j). inr b) side)
+  object-part = row-part (objectRow i) (objectFields s) m refl room
 
   pub object-stored : ObjectFits s → objectState (withObjectState m i s) i ≡ s
   unfolding withObjectState objectState
@@ -135,18 +145,12 @@ object-read m n j e =
 pub ipdu-other : (m : List ℕ) (k : ℕ) (s : IpduState) → ipduRow k + 16 ≤ length m → (j : ℕ) → (j ≡ k → ⊥)
     → ipduState (withIpduState m k s) j ≡ ipduState m j
 ipdu-other m k s room j ne =
-    ipdu-read (withIpduState m k s) m j
-    (λ o w h.
-    ipdu-part m k s room (ipduRow j + o) w
-    (⊎-elim (λ (b : j < k). inl (omega arith)) (λ (b : k ≤ j). inr (omega (arith, ne))) (lt-or-le j k)))
+    ipdu-read (withIpduState m k s) m j (λ o w h. ipdu-part m k s room (ipduRow j + o) w (other-row ipduRows j k o w ne h))
 
 pub object-other : (m : List ℕ) (i : ℕ) (s : ObjectState) → objectRow i + 16 ≤ length m → (j : ℕ) → (j ≡ i → ⊥)
     → objectState (withObjectState m i s) j ≡ objectState m j
 object-other m i s room j ne =
-    object-read (withObjectState m i s) m j
-    (λ o w h.
-    object-part m i s room (objectRow j + o) w
-    (⊎-elim (λ (b : j < i). inl (omega arith)) (λ (b : i ≤ j). inr (omega (arith, ne))) (lt-or-le j i)))
+    object-read (withObjectState m i s) m j (λ o w h. object-part m i s room (objectRow j + o) w (other-row objectRows j i o w ne h))
 
 pub ipdu-keeps-objects : (m : List ℕ) (k : ℕ) (s : IpduState) → ipduRow k + 16 ≤ length m → k < 32 → (i : ℕ)
     → objectState (withIpduState m k s) i ≡ objectState m i

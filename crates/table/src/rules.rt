@@ -1,4 +1,5 @@
-// When the header and a record are right by themselves. Tests are joined by `&` and `|`, which make no branch.
+// When the header and a record are right by themselves. Tests of one kind are joined by `&` and `|`, and are proved equal to
+// their definition by computation.
 use super::Counts;
 use super::HEADER_SIZE;
 use super::IPDU_SIZE;
