@@ -4,10 +4,10 @@ use mathlib.Core.Logic.{_⊎_, inl, inr, ⊎-elim}
 use mathlib.Core.Path.{_≡_, refl, sym, ap, _∙_}
 use mathlib.Core.List.{List, [], _∷_, _++_, append-assoc, append-nil}
 use Prim.Native.Nat.{ℕ, zero, suc, _+_, _-_, _*_, _/_, _%_, _^_, _≤_, _<_, min}
-use native.Mathlib.Nat.{one-le-pow, zero-lt-suc, pow-succ', mul-comm}
+use native.Mathlib.Nat.{zero-mod, one-le-pow, zero-lt-suc, pow-succ', mul-comm}
 use native.Mathlib.Numerals.{add-one}
 use native.Mathlib.Omega.{arith}
-use lib.ListN.{drop-of-length-le, length, getD, take, drop, length-take, length-drop, length-append, List·getD-append, List·getD-eq-default}
+use lib.ListN.{drop-of-length-le, replicate, length, getD, take, drop, length-take, length-drop, length-append, List·getD-append, List·getD-eq-default}
 use lib.Arith.{mod-mul}
 use lib.Seq.{ext-getD, sets, sets-eq, take-nil, take-all, take-at, drop-at, length-take-le, getD-take, getD-drop, getD-append-add}
 use Rattle.memory.proofs.Tests.{lt-or-le}
@@ -147,3 +147,31 @@ pub get-apart : (at : ℕ) (f m : List ℕ) (j k : ℕ) → at + length f ≤ le
     → get k j (replaced at f m) ≡ get k j m
 unfolding get
 get-apart at f m j k h side = ap value (part-apart at f m j k h side)
+
+-- the low bytes of a number of bytes are its first bytes
+pub value-take : (k : ℕ) (f : List ℕ) → Bytes f → value (take k f) ≡ value f % 256 ^ k
+unfolding value
+value-take zero f bs = omega arith
+value-take (suc k) [] bs = sym (zero-mod (256 ^ suc k))
+value-take (suc k) (b ∷ f) bs =
+    let halves : (b + 256 * value f) % (256 ^ k * 256) ≡ ((b + 256 * value f) / 256 % 256 ^ k) * 256 + (b + 256 * value f) % 256 =
+    mod-mul (b + 256 * value f) (one-le-pow k 256 (zero-lt-suc 255)) (zero-lt-suc 255) in
+    let low : b < 256 = bs 0 in
+    let rest : (b + 256 * value f) / 256 ≡ value f = omega arith in
+    rw (pow-succ', mul-comm 256 (256 ^ k), halves, rest, value-take k f (λ i. bs (suc i))) (omega arith)
+
+bytesOf-zero : (k : ℕ) → bytesOf k 0 ≡ replicate k 0
+unfolding bytesOf
+bytesOf-zero zero = refl
+bytesOf-zero (suc k) = ap (λ (g : List ℕ). 0 ∷ g) (bytesOf-zero k)
+
+-- a number of bytes, written in as many bytes and k more: the bytes, then zeros
+pub bytesOf-value : (f : List ℕ) (k : ℕ) → Bytes f → bytesOf (length f + k) (value f) ≡ f ++ replicate k 0
+unfolding value bytesOf
+bytesOf-value [] k bs = let e : length {A = ℕ} [] + k ≡ k = omega arith in rw e (bytesOf-zero k)
+bytesOf-value (b ∷ f) k bs =
+    let low : b < 256 = bs 0 in
+    let rest : (b + 256 * value f) / 256 ≡ value f = omega arith in
+    let here : (b + 256 * value f) % 256 ≡ b = omega arith in
+    let longer : length (b ∷ f) + k ≡ suc (length f + k) = omega arith in
+    rw (longer, rest, here, bytesOf-value f k (λ i. bs (suc i)))

@@ -1,4 +1,4 @@
--- Laws of `any`, `least` and `sum`: what a loop over records has shown.
+-- Laws of `any`, `least`, `sum` and `fold`: what a loop over records has shown.
 -- Assumes nothing.
 use mathlib.Core.Bool.{Bool, true, false, _||_}
 use mathlib.Core.Logic.{_⊎_, inl, inr, ⊎-elim}
@@ -6,7 +6,7 @@ use mathlib.Core.Path.{_≡_, refl, sym, ap, _∙_}
 use Prim.Native.Nat.{ℕ, zero, suc, _+_, _≤_, _<_, zero-le, suc-le-suc}
 use native.Mathlib.Nat.{le-refl, le-of-suc-le-suc, not-suc-le-zero, le-of-lt}
 use native.Mathlib.Omega.{arith}
-use Rattle.memory.specs.Search.{pick, any, least, sum}
+use Rattle.memory.specs.Search.{pick, any, least, sum, fold}
 use Rattle.memory.proofs.Tests.{lt-or-le, eq-or-ne, true-or-false, true-not-false, or-split}
 
 -- what holds of each number below n, and of n, holds of each below suc n
@@ -67,3 +67,19 @@ any-true n f e = go (found n f)
     go : Found n f → (k : ℕ) × (k < n) × (f k ≡ true)
     go (there i h none here) = (i, h, here)
     go (nowhere none) = absurd (true-not-false e (any-none n f none))
+
+-- the sum of more numbers is no smaller
+pub sum-more : (n k : ℕ) (f : ℕ → ℕ) → k ≤ n → sum k f ≤ sum n f
+sum-more zero zero f h = zero-le
+sum-more zero (suc k) f h = absurd (omega arith)
+sum-more (suc n) k f h =
+    ⊎-elim
+    (λ (e : k ≡ suc n). rw e (omega arith))
+    (λ (ne : k ≡ suc n → ⊥). omega (arith, sum-more n k f (omega arith)))
+    (eq-or-ne k (suc n))
+
+-- what each turn keeps holds after all of them
+pub fold-keeps {ℓ κ} : {A : Type ℓ} (P : A → Type κ) (n : ℕ) (turn : ℕ → A → A)
+    → ((k : ℕ) → k < n → (a : A) → P a → P (turn k a)) → (a : A) → P a → P (fold n turn a)
+fold-keeps P zero turn keeps a h = h
+fold-keeps P (suc n) turn keeps a h = keeps n (le-refl (suc n)) (fold n turn a) (fold-keeps P n turn (λ k b. keeps k (omega arith)) a h)

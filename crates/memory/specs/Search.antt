@@ -1,4 +1,4 @@
--- Choices, searches and sums over the numbers below a bound: what loops over records are held to.
+-- Choices, searches, sums and turns over the numbers below a bound: what loops over records are held to.
 -- Assumes nothing.
 use mathlib.Core.Bool.{Bool, true, false, _||_}
 use Prim.Native.Nat.{ℕ, zero, suc, _+_}
@@ -21,3 +21,8 @@ least (suc n) f = pick (f 0) 0 (suc (least n (λ k. f (suc k))))
 abbrev pub sum : ℕ → (ℕ → ℕ) → ℕ
 sum zero f = 0
 sum (suc n) f = sum n f + f n
+
+-- turn 0, then turn 1, .., then turn (n - 1)
+abbrev pub fold {ℓ} : {A : Type ℓ} → ℕ → (ℕ → A → A) → A → A
+fold zero turn a = a
+fold (suc n) turn a = turn n (fold n turn a)

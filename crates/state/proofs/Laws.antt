@@ -34,6 +34,7 @@ pub record ObjectFits (s : ObjectState) : Type 0 where
   pub overflow : s .overflow < 256
   pub head : s .head < 256
   pub count : s .count < 256
+  pub queue : s .queue < 2 ^ 16
 
 -- ---- rows of 16 bytes
 
@@ -101,6 +102,7 @@ module _ (m : List ℕ) (i : ℕ) (s : ObjectState) (room : objectRow i + 16 ≤
         h .1 .1 .1 .1 .0,
         h .1 .1 .1 .1 .1 .0,
         h .1 .1 .1 .1 .1 .1 .0,
+        h .1 .1 .1 .1 .1 .1 .1 .0,
         mod-eq-of-lt (f .value),
         mod-eq-of-lt (f .old),
         mod-eq-of-lt (f .occurrence),
@@ -108,6 +110,7 @@ module _ (m : List ℕ) (i : ℕ) (s : ObjectState) (room : objectRow i + 16 ≤
         mod-eq-of-lt (f .overflow),
         mod-eq-of-lt (f .head),
         mod-eq-of-lt (f .count),
+        mod-eq-of-lt (f .queue),
       )
 
 -- ---- a row is read from its own 16 bytes alone
@@ -138,6 +141,7 @@ object-read m n j e =
       e 10 1 (omega arith),
       e 11 1 (omega arith),
       e 12 1 (omega arith),
+      e 14 2 (omega arith),
     )
 
 -- ---- other rows are as they were

@@ -75,6 +75,7 @@ objectState m i =
       overflow = get 1 (objectRow i + 10) m;
       head = get 1 (objectRow i + 11) m;
       count = get 1 (objectRow i + 12) m;
+      queue = get 2 (objectRow i + 14) m;
     }
 
 abbrev pub objectFields : ObjectState → List Field
@@ -86,6 +87,7 @@ objectFields s =
     ∷ field 10 1 (s .overflow)
     ∷ field 11 1 (s .head)
     ∷ field 12 1 (s .count)
+    ∷ field 14 2 (s .queue)
     ∷ []
 
 unfoldable pub withObjectState : List ℕ → ℕ → ObjectState → List ℕ

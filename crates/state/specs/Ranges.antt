@@ -10,18 +10,20 @@ use Rattle.table.specs.declared.Direction.{Direction}
 use Rattle.table.specs.declared.Direction.the-variants.{Send, Receive}
 use Rattle.table.specs.declared.Ipdu.{Ipdu}
 use Rattle.table.specs.Records.{ipduRecord, objectRecord}
+use Rattle.table.specs.Check.{depths}
 use Rattle.table.specs.Decode.{ipduOf}
 use Rattle.state.specs.declared.IpduState.{IpduState}
 use Rattle.state.specs.declared.ObjectState.{ObjectState}
 use Rattle.state.specs.Layout.{stoppedAt, ipduState, objectState}
 
--- flags are 0 or 1; delay at most M, deadline at most D, countdown at most the larger of period and offset; a receive
+-- flags are 0 or 1, and the period runs only where there is one; delay at most M, deadline at most D, countdown at most the larger of period and offset; a receive
 -- I-PDU has a timer alone, at most the larger of F and R
 abbrev pub inRangeAs : Direction → Ipdu → IpduState → Bool
 inRangeAs Send p s =
     leb (s .requested) 1
     && leb (s .wanted) 1
     && leb (s .running) 1
+    && leb (s .running) (max (p .period) (p .offset))
     && leb (s .delay) (p .«minimum_delay»)
     && leb (s .deadline) (p .deadline)
     && leb (s .countdown) (max (p .period) (p .offset))
@@ -38,16 +40,22 @@ inRangeAs Receive p s =
 unfoldable pub ipduInRange : Ipdu → IpduState → Bool
 ipduInRange p s = inRangeAs (p .direction) p s
 
--- the four marks, the overflow flag, a count of at most the depth, and the place of the oldest value below it
-unfoldable pub objectInRange : ℕ → ObjectState → Bool
-objectInRange depth s = leb (s .marks) 15 && leb (s .overflow) 1 && leb (s .count) depth && leb (s .head) (depth - 1)
+-- the four marks, the overflow flag, a count of at most the depth, the place of the oldest value below it; the queue begins
+-- where those of all lower objects end
+unfoldable pub objectInRange : ℕ → ℕ → ObjectState → Bool
+objectInRange depth first s =
+    leb (s .marks) 15
+    && leb (s .overflow) 1
+    && leb (s .count) depth
+    && leb (s .head) (depth - 1)
+    && eqb (s .queue) first
 
 abbrev pub ipduOut : List ℕ → List ℕ → ℕ → Bool
 ipduOut t m k = not (ipduInRange (ipduOf (ipduRecord t k)) (ipduState m k))
 
-abbrev pub objectOut : List ℕ → ℕ → List ℕ → ℕ → Bool
-objectOut t ipdus m i = not (objectInRange (objectRecord t ipdus i .depth) (objectState m i))
+abbrev pub objectOut : List ℕ → Counts → List ℕ → ℕ → Bool
+objectOut t c m i = not (objectInRange (objectRecord t (c .ipdus) i .depth) (depths t c i) (objectState m i))
 
 -- every stored number is in its range
 unfoldable pub inRange : List ℕ → Counts → List ℕ → Bool
-inRange t c m = leb (stoppedAt m) 1 && not (any (c .ipdus) (ipduOut t m)) && not (any (c .objects) (objectOut t (c .ipdus) m))
+inRange t c m = leb (stoppedAt m) 1 && not (any (c .ipdus) (ipduOut t m)) && not (any (c .objects) (objectOut t c m))

@@ -33,13 +33,14 @@ pub struct IpduState {
 }
 
 // The stored numbers of a message object: its value, the filter's old value and occurrence, its marks, and of its queue
-// whether a value was lost, the place of the oldest value and how many there are.
+// whether a value was lost, the place of the oldest value, how many there are, and where the queue begins.
 pub struct ObjectState {
     pub value: u32,
     pub old: u32,
-    pub occurrence: u32,
+    pub occurrence: u8,
     pub marks: u32,
     pub overflow: u32,
     pub head: u32,
     pub count: u32,
+    pub queue: u32,
 }

@@ -13,12 +13,13 @@ ghost use lib.ListN.{length};
 ghost use Rattle.memory.specs.Search.{any};
 ghost use Rattle.table.specs.declared.Direction.the-variants.{Send, Receive};
 ghost use Rattle.table.specs.Check.{Shape};
+ghost use Rattle.table.specs.Decode.{Right};
 ghost use Rattle.state.specs.Layout.{memorySize};
 ghost use Rattle.state.specs.Ranges.{inRangeAs, ipduInRange, objectInRange, ipduOut, objectOut, inRange};
 
 // Whether working memory holds numbers that calls over this table may meet.
 pub fn in_range(t: &[u8], c: Counts, m: &[u8]) -> bool
-    requires { ⌜ Shape (now t) c ⌝ }
+    requires { ⌜ Right (now t) c ⌝ }
     requires { ⌜ memorySize ≤ length (now m) ⌝ }
     ensures { λ r. ⌜ r ≡ inRange (now (t .entry)) c (now (m .entry)) ⌝ }
 {
@@ -48,18 +49,20 @@ fn ipdus_in_range(t: &[u8], c: Counts, m: &[u8]) -> bool
 }
 
 fn objects_in_range(t: &[u8], c: Counts, m: &[u8]) -> bool
-    requires { ⌜ Shape (now t) c ⌝ }
+    requires { ⌜ Right (now t) c ⌝ }
     requires { ⌜ memorySize ≤ length (now m) ⌝ }
-    ensures { λ r. ⌜ r ≡ not (any (c .objects) (objectOut (now (t .entry)) (c .ipdus) (now (m .entry)))) ⌝ }
+    ensures { λ r. ⌜ r ≡ not (any (c .objects) (objectOut (now (t .entry)) c (now (m .entry)))) ⌝ }
 {
     let n = c.ipdus;
     let end = c.objects;
+    let mut first = 0;
     let mut i = 0;
     while i < end {
         let r = table::object_record(t, n, ObjectNumber(i));
-        if !object_in_range(r.depth, super::object_state(m, ObjectNumber(i))) {
+        if !object_in_range(r.depth, first, super::object_state(m, ObjectNumber(i))) {
             return false;
         }
+        first += r.depth;
         i += 1;
     }
     true
@@ -82,6 +85,7 @@ fn send_in_range(p: Ipdu, s: IpduState) -> bool
     (s.requested <= 1)
         & (s.wanted <= 1)
         & (s.running <= 1)
+        & (s.running <= longest)
         & (s.delay <= p.minimum_delay)
         & (s.deadline <= p.deadline)
         & (s.countdown <= longest)
@@ -101,11 +105,15 @@ fn receive_in_range(p: Ipdu, s: IpduState) -> bool
         & (s.timer <= longest)
 }
 
-fn object_in_range(depth: u32, s: ObjectState) -> bool
-    ensures { λ b. ⌜ b ≡ objectInRange depth s ⌝ }
+fn object_in_range(depth: u32, first: u32, s: ObjectState) -> bool
+    ensures { λ b. ⌜ b ≡ objectInRange depth first s ⌝ }
 {
     let last = one_less(depth);
-    (s.marks <= 15) & (s.overflow <= 1) & (s.count <= depth) & (s.head <= last)
+    (s.marks <= 15)
+        & (s.overflow <= 1)
+        & (s.count <= depth)
+        & (s.head <= last)
+        & (s.queue == first)
 }
 
 fn larger(a: u32, b: u32) -> u32

@@ -51,11 +51,12 @@ pub fn object_state(m: &[u8], number: ObjectNumber) -> ObjectState
     ObjectState {
         value: memory::read32(m, a),
         old: memory::read32(m, a + 4),
-        occurrence: memory::read8(m, a + 8),
+        occurrence: memory::read8(m, a + 8) as u8,
         marks: memory::read8(m, a + 9),
         overflow: memory::read8(m, a + 10),
         head: memory::read8(m, a + 11),
         count: memory::read8(m, a + 12),
+        queue: memory::read16(m, a + 14),
     }
 }
 
@@ -67,9 +68,10 @@ pub fn set_object_state(m: &mut [u8], number: ObjectNumber, s: ObjectState)
     let a = OBJECT_ROWS + 16 * (number.0 as usize);
     memory::write32(m, a, s.value);
     memory::write32(m, a + 4, s.old);
-    memory::write8(m, a + 8, s.occurrence);
+    memory::write8(m, a + 8, s.occurrence as u32);
     memory::write8(m, a + 9, s.marks);
     memory::write8(m, a + 10, s.overflow);
     memory::write8(m, a + 11, s.head);
     memory::write8(m, a + 12, s.count);
+    memory::write16(m, a + 14, s.queue);
 }

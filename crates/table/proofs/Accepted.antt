@@ -9,8 +9,8 @@ use Prim.Native.Nat.{ℕ, zero, suc, _+_, _≤_, _<_, zero-le}
 use native.Mathlib.Omega.{arith}
 use borrow.Author.Tests.{leb-true, ltb-true, ltb-false, eqb-true, le-ltb, not-false}
 use lib.Dec.{leb, ltb, eqb}
-use Rattle.memory.specs.Search.{pick, least, sum}
-use Rattle.memory.proofs.Search.{least-none, least-before}
+use Rattle.memory.specs.Search.{pick, least}
+use Rattle.memory.proofs.Search.{least-none, least-before, sum-more}
 use Rattle.memory.proofs.Tests.{and-split, or-split, true-or-false}
 use Rattle.bits.specs.Slots.{position, InSlot}
 use Rattle.filter.specs.Filters.{HasPeriod, filterOf}
@@ -35,19 +35,10 @@ right-accepted t c r =
     let objects : least (c .objects) (wrongObject t c) ≡ c .objects = least-none (c .objects) (wrongObject t c) fine in
     rw (r .header, ← r .counted, ipdus, le-ltb (c .ipdus) (c .ipdus) (omega arith), objects, le-ltb (c .objects) (c .objects) (omega arith))
   where
-    more : (n k : ℕ) (f : ℕ → ℕ) → k ≤ n → sum k f ≤ sum n f
-    more zero zero f h = zero-le
-    more zero (suc k) f h = absurd (omega arith)
-    more (suc n) k f h =
-        ⊎-elim
-        (λ (e : (k ≡ suc n)). rw e (omega arith))
-        (λ (ne : k ≡ suc n → ⊥). omega (arith, more n k f (omega arith)))
-        (Rattle.memory.proofs.Tests.eq-or-ne k (suc n))
-
     fine : (i : ℕ) → i < c .objects → wrongObject t c i ≡ false
     fine i h =
         let low : pastDepth t c i ≡ false =
-        le-ltb 512 (depths t c (suc i)) (omega (arith, r .depth, more (c .objects) (suc i) (λ j. objectRecord t (c .ipdus) j .depth) h)) in
+        le-ltb 512 (depths t c (suc i)) (omega (arith, r .depth, sum-more (c .objects) (suc i) (λ j. objectRecord t (c .ipdus) j .depth) h)) in
         rw (r .objects i h, r .apart i h) low
 
 -- ---- nothing wrong where accepted

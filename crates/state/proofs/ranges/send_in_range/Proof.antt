@@ -8,7 +8,7 @@ larger-requires : tie.Need-larger-requires
 larger-requires c κs = search needs
 
 returns : tie.Need-returns
-returns c = rw (c .before .before .before .before .before .before .before .before .before .larger .ensures)
+returns c = rw (c .before .before .before .before .before .before .before .before .before .before .larger .ensures)
 
 pub send-in-range-spec : {M : Type 1} → statement M
 send-in-range-spec = tie.close (tie.spec larger-requires returns)

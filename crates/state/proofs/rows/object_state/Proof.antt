@@ -1,10 +1,13 @@
 -- `state::rows::object_state` meets its contract.
 -- Assumes nothing.
-use native.Mathlib.Nat.{add-zero}
-use Rattle.state.specs.Layout.{objectState}
 use borrow.Author.Needs.{needs}
 use Rattle.state.proofs.rows.object_state.Statement.{statement}
 use Rattle.state.proofs.rows.object_state.Tie as tie
+use native.Mathlib.Nat.{add-zero}
+use Rattle.state.specs.Layout.{objectState}
+use Rattle.memory.proofs.read16.Reads as read16-reads
+use Rattle.memory.proofs.read32.Reads as read32-reads
+use Rattle.memory.proofs.read8.Reads as read8-reads
 
 cast-a : tie.Need-cast-a
 cast-a c = search needs
@@ -30,6 +33,9 @@ add-read8 c = search needs
 read8-requires : tie.Need-read8-requires
 read8-requires c κs = search needs
 
+cast-t9 : tie.Need-cast-t9
+cast-t9 c = search needs
+
 add-read8-2 : tie.Need-add-read8-2
 add-read8-2 c = search needs
 
@@ -54,10 +60,15 @@ add-read8-5 c = search needs
 read8-requires-5 : tie.Need-read8-requires-5
 read8-requires-5 c κs = search needs
 
+add-read16 : tie.Need-add-read16
+add-read16 c = search needs
+
+read16-requires : tie.Need-read16-requires
+read16-requires c κs = search needs
+
 returns : tie.Need-returns
 unfolding objectState
 returns c = rw add-zero (cc)
-
 pub object-state-spec : {M : Type 1} → statement M
 object-state-spec =
     tie.close
@@ -70,6 +81,7 @@ object-state-spec =
     read32-requires-2
     add-read8
     read8-requires
+    cast-t9
     add-read8-2
     read8-requires-2
     add-read8-3
@@ -78,4 +90,6 @@ object-state-spec =
     read8-requires-4
     add-read8-5
     read8-requires-5
+    add-read16
+    read16-requires
     returns)

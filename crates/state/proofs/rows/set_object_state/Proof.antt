@@ -1,10 +1,14 @@
--- `state::rows::set_object_state` meets its contract: seven parts are replaced in a row.
+-- `state::rows::set_object_state` meets its contract: eight parts are replaced in a row.
 -- Assumes nothing.
-use native.Mathlib.Nat.{add-zero}
-use Rattle.state.specs.Layout.{withObjectState}
 use borrow.Author.Needs.{needs}
 use Rattle.state.proofs.rows.set_object_state.Statement.{statement}
 use Rattle.state.proofs.rows.set_object_state.Tie as tie
+use native.Mathlib.Nat.{add-zero}
+use native.Mathlib.Omega.{arith}
+use Rattle.state.specs.Layout.{withObjectState}
+use Rattle.memory.proofs.write16.Reads as write16-reads
+use Rattle.memory.proofs.write32.Reads as write32-reads
+use Rattle.memory.proofs.write8.Reads as write8-reads
 
 cast-a : tie.Need-cast-a
 cast-a c = search needs
@@ -26,6 +30,9 @@ write32-requires-2 c κs = search needs
 
 add-write8 : tie.Need-add-write8
 add-write8 c = search needs
+
+cast-write8 : tie.Need-cast-write8
+cast-write8 c = search needs
 
 write8-requires : tie.Need-write8-requires
 write8-requires c κs = search needs
@@ -54,6 +61,12 @@ add-write8-5 c = search needs
 write8-requires-5 : tie.Need-write8-requires-5
 write8-requires-5 c κs = search needs
 
+add-write16 : tie.Need-add-write16
+add-write16 c = omega (arith, c .before .before .before .before .before .before .before .before .before .before .before .before .before .before .before .before .before .before .before .before .before .before .before .before .before .before .before .before .before .before .before .before .pre, c .before .before .before .before .before .before .before .before .before .before .before .before .before .before .before .before .before .before .before .before .before .before .before .before .before .before .before .before .before .before .before .before .good)
+
+write16-requires : tie.Need-write16-requires
+write16-requires c κs = search needs
+
 same-length : tie.Need-same-length
 same-length c = search needs
 
@@ -61,16 +74,16 @@ returns : tie.Need-returns
 unfolding withObjectState
 returns c =
     rw (
-      c .before .before .write85 .ensures,
-      c .before .before .before .before .before .before .write84 .ensures,
-      c .before .before .before .before .before .before .before .before .before .before .write83 .ensures,
-      c .before .before .before .before .before .before .before .before .before .before .before .before .before .before .write82 .ensures,
-      c .before .before .before .before .before .before .before .before .before .before .before .before .before .before .before .before .before .before .write8 .ensures,
-      c .before .before .before .before .before .before .before .before .before .before .before .before .before .before .before .before .before .before .before .before .before .before .write322 .ensures,
-      c .before .before .before .before .before .before .before .before .before .before .before .before .before .before .before .before .before .before .before .before .before .before .before .before .before .before .write32 .ensures,
+      c .before .before .write16 .ensures,
+      c .before .before .before .before .before .before .write85 .ensures,
+      c .before .before .before .before .before .before .before .before .before .before .write84 .ensures,
+      c .before .before .before .before .before .before .before .before .before .before .before .before .before .before .write83 .ensures,
+      c .before .before .before .before .before .before .before .before .before .before .before .before .before .before .before .before .before .before .write82 .ensures,
+      c .before .before .before .before .before .before .before .before .before .before .before .before .before .before .before .before .before .before .before .before .before .before .write8 .ensures,
+      c .before .before .before .before .before .before .before .before .before .before .before .before .before .before .before .before .before .before .before .before .before .before .before .before .before .before .before .write322 .ensures,
+      c .before .before .before .before .before .before .before .before .before .before .before .before .before .before .before .before .before .before .before .before .before .before .before .before .before .before .before .before .before .before .before .write32 .ensures,
       add-zero,
     )
-
 pub set-object-state-spec : {M : Type 1} → statement M
 set-object-state-spec =
     tie.close
@@ -82,6 +95,7 @@ set-object-state-spec =
     add-write32
     write32-requires-2
     add-write8
+    cast-write8
     write8-requires
     add-write8-2
     write8-requires-2
@@ -91,5 +105,7 @@ set-object-state-spec =
     write8-requires-4
     add-write8-5
     write8-requires-5
+    add-write16
+    write16-requires
     same-length
     returns)
