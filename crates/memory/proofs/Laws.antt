@@ -4,7 +4,7 @@ use mathlib.Core.Logic.{_⊎_, inl, inr, ⊎-elim}
 use mathlib.Core.Path.{_≡_, refl, sym, ap, _∙_}
 use mathlib.Core.List.{List, [], _∷_, _++_, append-assoc, append-nil}
 use Prim.Native.Nat.{ℕ, zero, suc, _+_, _-_, _*_, _/_, _%_, _^_, _≤_, _<_, min}
-use native.Mathlib.Nat.{zero-mod, one-le-pow, zero-lt-suc, pow-succ', mul-comm}
+use native.Mathlib.Nat.{zero-mod, mod-lt, one-le-pow, zero-lt-suc, pow-succ', mul-comm}
 use native.Mathlib.Numerals.{add-one}
 use native.Mathlib.Omega.{arith}
 use lib.ListN.{drop-of-length-le, replicate, length, getD, take, drop, length-take, length-drop, length-append, List·getD-append, List·getD-eq-default}
@@ -175,3 +175,30 @@ bytesOf-value (b ∷ f) k bs =
     let here : (b + 256 * value f) % 256 ≡ b = omega arith in
     let longer : length (b ∷ f) + k ≡ suc (length f + k) = omega arith in
     rw (longer, rest, here, bytesOf-value f k (λ i. bs (suc i)))
+
+-- ---- bytes stay bytes
+
+-- a number of k bytes
+pub get-lt : (k at : ℕ) (m : List ℕ) → Bytes m → get k at m < 256 ^ k
+unfolding get part
+get-lt k at m bs =
+    let whole : Bytes (drop at m) = λ i. rw (getD-drop at m i 0) (bs (at + i)) in
+    let low : value (drop at m) % 256 ^ k < 256 ^ k = mod-lt (value (drop at m)) (one-le-pow k 256 (zero-lt-suc 255)) in
+    omega (arith, low, value-take k (drop at m) whole)
+
+pub bytesOf-bytes : (k x : ℕ) → Bytes (bytesOf k x)
+unfolding bytesOf
+bytesOf-bytes zero x i = zero-lt-suc 255
+bytesOf-bytes (suc k) x zero = mod-lt x (zero-lt-suc 255)
+bytesOf-bytes (suc k) x (suc i) = bytesOf-bytes k (x / 256) i
+
+append-bytes : (f g : List ℕ) → Bytes f → Bytes g → Bytes (f ++ g)
+append-bytes [] g b d i = d i
+append-bytes (x ∷ f) g b d zero = b 0
+append-bytes (x ∷ f) g b d (suc i) = append-bytes f g (λ j. b (suc j)) d i
+
+pub replaced-bytes : (at : ℕ) (f m : List ℕ) → Bytes f → Bytes m → Bytes (replaced at f m)
+unfolding replaced part
+replaced-bytes at f m b d =
+    append-bytes (take at m) (f ++ drop (at + length f) m) (part-bytes 0 at m d)
+    (append-bytes f (drop (at + length f) m) b (λ i. rw (getD-drop (at + length f) m i 0) (d (at + length f + i))))

@@ -1,4 +1,4 @@
--- Laws of a row: its length, what lies apart from it, and each field that was put.
+-- Laws of a row: its length, what lies apart from it, each field that was put, and that bytes stay bytes.
 -- Assumes nothing.
 use mathlib.Core.Bool.{true, _&&_}
 use mathlib.Core.List.{List, [], _∷_}
@@ -9,10 +9,10 @@ use native.Mathlib.Omega.{arith}
 use borrow.Author.Tests.{leb-true}
 use lib.Dec.{leb}
 use lib.ListN.{length}
-use Rattle.memory.specs.Bytes.{value, bytesOf, get, part, replaced}
+use Rattle.memory.specs.Bytes.{Bytes, value, bytesOf, get, part, replaced}
 use Rattle.memory.specs.Rows.{Field, put, rising}
 use Rattle.memory.proofs.Tests.{and-split}
-use Rattle.memory.proofs.Laws.{bytesOf-length, replaced-length, part-apart, get-replaced}
+use Rattle.memory.proofs.Laws.{bytesOf-length, bytesOf-bytes, replaced-length, replaced-bytes, part-apart, get-replaced}
 
 -- rising fields end where they should
 pub rising-end : (from end : ℕ) (fs : List Field) → rising from end fs ≡ true → from ≤ end
@@ -70,3 +70,9 @@ put-holds a from end (f ∷ fs) m e room =
           ∙ get-replaced (f .width) (a + f .offset) (f .value) m (omega arith),
       put-holds a (f .offset + f .width) end fs next (parts .1) there,
     )
+
+pub put-bytes : (a : ℕ) (fs : List Field) (m : List ℕ) → Bytes m → Bytes (put a fs m)
+put-bytes a [] m b = b
+put-bytes a (f ∷ fs) m b =
+    put-bytes a fs (replaced (a + f .offset) (bytesOf (f .width) (f .value)) m)
+    (replaced-bytes (a + f .offset) (bytesOf (f .width) (f .value)) m (bytesOf-bytes (f .width) (f .value)) b)

@@ -8,9 +8,10 @@ use Prim.Native.Nat.{ℕ, _+_, _*_, _^_, _≤_, _<_}
 use native.Mathlib.Nat.{mod-eq-of-lt}
 use native.Mathlib.Omega.{arith}
 use lib.ListN.{length}
-use Rattle.memory.specs.Bytes.{value, get, part}
+use Rattle.memory.specs.Bytes.{Bytes, value, get, part}
 use Rattle.memory.specs.Rows.{Field, put, rising}
-use Rattle.memory.proofs.Rows.{put-length, put-apart, put-holds}
+use Rattle.memory.proofs.Laws.{get-lt}
+use Rattle.memory.proofs.Rows.{put-length, put-apart, put-holds, put-bytes}
 use Rattle.memory.proofs.Tests.{lt-or-le}
 use Rattle.state.specs.declared.IpduState.{IpduState}
 use Rattle.state.specs.declared.ObjectState.{ObjectState}
@@ -112,6 +113,43 @@ module _ (m : List ℕ) (i : ℕ) (s : ObjectState) (room : objectRow i + 16 ≤
         mod-eq-of-lt (f .count),
         mod-eq-of-lt (f .queue),
       )
+
+-- ---- bytes stay bytes, and hold numbers that fit them
+
+pub ipdu-bytes : (m : List ℕ) (k : ℕ) (s : IpduState) → Bytes m → Bytes (withIpduState m k s)
+unfolding withIpduState
+ipdu-bytes m k s = put-bytes (ipduRow k) (ipduFields s) m
+
+pub object-bytes : (m : List ℕ) (i : ℕ) (s : ObjectState) → Bytes m → Bytes (withObjectState m i s)
+unfolding withObjectState
+object-bytes m i s = put-bytes (objectRow i) (objectFields s) m
+
+pub ipdu-fits : (m : List ℕ) (k : ℕ) → Bytes m → IpduFits (ipduState m k)
+unfolding ipduState
+ipdu-fits m k bs =
+    record {
+      requested = get-lt 1 (ipduRow k + 0) m bs;
+      wanted = get-lt 1 (ipduRow k + 1) m bs;
+      running = get-lt 1 (ipduRow k + 2) m bs;
+      delay = get-lt 2 (ipduRow k + 4) m bs;
+      deadline = get-lt 2 (ipduRow k + 6) m bs;
+      countdown = get-lt 2 (ipduRow k + 8) m bs;
+      timer = get-lt 2 (ipduRow k + 10) m bs;
+    }
+
+pub object-fits : (m : List ℕ) (i : ℕ) → Bytes m → ObjectFits (objectState m i)
+unfolding objectState
+object-fits m i bs =
+    record {
+      value = get-lt 4 (objectRow i + 0) m bs;
+      old = get-lt 4 (objectRow i + 4) m bs;
+      occurrence = get-lt 1 (objectRow i + 8) m bs;
+      marks = get-lt 1 (objectRow i + 9) m bs;
+      overflow = get-lt 1 (objectRow i + 10) m bs;
+      head = get-lt 1 (objectRow i + 11) m bs;
+      count = get-lt 1 (objectRow i + 12) m bs;
+      queue = get-lt 2 (objectRow i + 14) m bs;
+    }
 
 -- ---- a row is read from its own 16 bytes alone
 

@@ -1,8 +1,11 @@
 -- The ranges of the stored numbers, as docs/MEMORY.md lists them: refusal 6 for a range is given exactly by these.
 -- Numbers that are not named here (values, old values, occurrences) may be anything that their bytes hold. Assumes nothing.
-use mathlib.Core.Bool.{Bool, not, _&&_}
+use mathlib.Core.Bool.{Bool, true, not, _&&_}
 use mathlib.Core.List.{List}
-use Prim.Native.Nat.{ℕ, _-_, max}
+use mathlib.Core.Path.{_≡_}
+use Prim.Native.Nat.{ℕ, _-_, _≤_, _<_, max}
+use lib.ListN.{length}
+use Rattle.memory.specs.Bytes.{Bytes}
 use lib.Dec.{leb, eqb}
 use Rattle.memory.specs.Search.{any}
 use Rattle.table.specs.declared.Counts.{Counts}
@@ -11,10 +14,10 @@ use Rattle.table.specs.declared.Direction.the-variants.{Send, Receive}
 use Rattle.table.specs.declared.Ipdu.{Ipdu}
 use Rattle.table.specs.Records.{ipduRecord, objectRecord}
 use Rattle.table.specs.Check.{depths}
-use Rattle.table.specs.Decode.{ipduOf}
+use Rattle.table.specs.Decode.{ipduOf, Right}
 use Rattle.state.specs.declared.IpduState.{IpduState}
 use Rattle.state.specs.declared.ObjectState.{ObjectState}
-use Rattle.state.specs.Layout.{stoppedAt, ipduState, objectState}
+use Rattle.state.specs.Layout.{memorySize, stoppedAt, ipduState, objectState}
 
 -- flags are 0 or 1, and the period runs only where there is one; delay at most M, deadline at most D, countdown at most the larger of period and offset; a receive
 -- I-PDU has a timer alone, at most the larger of F and R
@@ -59,3 +62,14 @@ objectOut t c m i = not (objectInRange (objectRecord t (c .ipdus) i .depth) (dep
 -- every stored number is in its range
 unfoldable pub inRange : List ℕ → Counts → List ℕ → Bool
 inRange t c m = leb (stoppedAt m) 1 && not (any (c .ipdus) (ipduOut t m)) && not (any (c .objects) (objectOut t c m))
+
+-- what a call works on: a table that was accepted, and a working memory that was found in range
+pub record Ready (t : List ℕ) (c : Counts) (m : List ℕ) : Type 0 where
+  pub right : Right t c
+  pub tables : Bytes t
+  pub long : memorySize ≤ length m
+  pub bytes : Bytes m
+  pub stopped : leb (stoppedAt m) 1 ≡ true
+  pub ipdus : (k : ℕ) → k < c .ipdus → ipduInRange (ipduOf (ipduRecord t k)) (ipduState m k) ≡ true
+  pub objects : (i : ℕ) → i < c .objects
+    → objectInRange (objectRecord t (c .ipdus) i .depth) (depths t c i) (objectState m i) ≡ true

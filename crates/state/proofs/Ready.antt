@@ -1,0 +1,213 @@
+-- A working memory in range stays so: where a row is set to numbers in their ranges, and where bytes outside the rows change.
+-- Assumes nothing.
+use mathlib.Core.Bool.{Bool, true, false, not, _&&_}
+use mathlib.Core.List.{List}
+use mathlib.Core.Logic.{_⊎_, inl, inr, ⊎-elim}
+use mathlib.Core.Path.{_≡_, refl, sym, ap, ap₂, _∙_}
+use Prim.Native.Nat.{ℕ, _+_, _-_, _*_, _^_, _≤_, _<_, max}
+use native.Mathlib.Omega.{arith}
+use borrow.Author.Tests.{leb-true, le-leb, eqb-true, eq-eqb, not-true, not-false}
+use lib.Dec.{leb, eqb}
+use lib.ListN.{length}
+use Rattle.memory.specs.Bytes.{Bytes, value, part, get, replaced}
+use Rattle.memory.proofs.Laws.{get-lt, part-apart, replaced-length, replaced-bytes}
+use Rattle.memory.proofs.Search.{any-none, any-false}
+use Rattle.memory.proofs.Tests.{and-split, eq-or-ne}
+use Rattle.table.specs.declared.Counts.{Counts}
+use Rattle.table.specs.declared.Direction.the-variants.{Send, Receive}
+use Rattle.table.specs.declared.Ipdu.{Ipdu}
+use Rattle.table.specs.Records.{ipduRecord, objectRecord}
+use Rattle.table.specs.Check.{depths}
+use Rattle.table.specs.Decode.{ipduOf, Right}
+use Rattle.table.proofs.Accepted.{Usable, usable}
+use Rattle.state.specs.declared.IpduState.{IpduState}
+use Rattle.state.specs.declared.ObjectState.{ObjectState}
+use Rattle.state.specs.Layout.{memorySize, stoppedAt, ipduRow, ipduState, withIpduState, objectRow, objectState, withObjectState}
+use Rattle.state.specs.Ranges.{inRangeAs, ipduInRange, objectInRange, ipduOut, objectOut, inRange, Ready}
+use Rattle.state.proofs.Laws.{IpduFits, ObjectFits, ipdu-length, ipdu-part, ipdu-stored, ipdu-bytes, ipdu-fits, ipdu-read, ipdu-other, ipdu-keeps-objects, object-length, object-part, object-stored, object-bytes, object-fits, object-read, object-other, object-keeps-ipdus}
+use Rattle.state.proofs.Turns.{depth-sum}
+
+-- ---- an object's numbers in their ranges
+
+pub record ObjectKept (depth first : ℕ) (s : ObjectState) : Type 0 where
+  pub value : s .value < 2 ^ 32
+  pub old : s .old < 2 ^ 32
+  pub occurrence : s .occurrence < 256
+  pub marks : s .marks ≤ 15
+  pub overflow : s .overflow ≤ 1
+  pub count : s .count ≤ depth
+  pub head : s .head ≤ depth - 1
+  pub queue : s .queue ≡ first
+
+object-kept : (depth first : ℕ) (s : ObjectState) → ObjectFits s → objectInRange depth first s ≡ true → ObjectKept depth first s
+unfolding objectInRange
+object-kept depth first s f e =
+    let b1 : Bool = leb (s .marks) 15 in
+    let b2 : Bool = leb (s .overflow) 1 in
+    let b3 : Bool = leb (s .count) depth in
+    let b4 : Bool = leb (s .head) (depth - 1) in
+    let a4 = and-split (b1 && b2 && b3 && b4) (eqb (s .queue) first) e in
+    let a3 = and-split (b1 && b2 && b3) b4 (a4 .0) in
+    let a2 = and-split (b1 && b2) b3 (a3 .0) in
+    let a1 = and-split b1 b2 (a2 .0) in
+    record {
+      value = f .value;
+      old = f .old;
+      occurrence = f .occurrence;
+      marks = leb-true (s .marks) 15 (a1 .0);
+      overflow = leb-true (s .overflow) 1 (a1 .1);
+      count = leb-true (s .count) depth (a2 .1);
+      head = leb-true (s .head) (depth - 1) (a3 .1);
+      queue = eqb-true (s .queue) first (a4 .1);
+    }
+
+kept-object : (depth first : ℕ) (s : ObjectState) → ObjectKept depth first s → objectInRange depth first s ≡ true
+unfolding objectInRange
+kept-object depth first s k =
+    rw (
+      le-leb (s .marks) 15 (k .marks),
+      le-leb (s .overflow) 1 (k .overflow),
+      le-leb (s .count) depth (k .count),
+      le-leb (s .head) (depth - 1) (k .head),
+    )
+    (eq-eqb (s .queue) first (k .queue))
+
+module _ (t : List ℕ) (c : Counts) (m : List ℕ) (ready : Ready t c m) where
+  -- where an object's queue ends, and its depth
+  pub record InQueues (i : ℕ) : Type 0 where
+    pub depth : objectRecord t (c .ipdus) i .depth ≤ 16
+    pub sum : depths t c i + objectRecord t (c .ipdus) i .depth ≤ 512
+
+  pub in-queues : (i : ℕ) → i < c .objects → InQueues i
+  in-queues i h = record { depth = usable t c (ready .right) i h .depth; sum = depth-sum t c (ready .right) i h }
+
+  pub object-row : (i : ℕ) → i < c .objects → objectRow i + 16 ≤ length m
+  object-row i h = omega (arith, h, ready .long, ready .right .shape .objects)
+
+  pub ipdu-row : (k : ℕ) → k < c .ipdus → ipduRow k + 16 ≤ length m
+  ipdu-row k h = omega (arith, h, ready .long, ready .right .shape .ipdus)
+
+  pub ready-kept : (i : ℕ) → i < c .objects → ObjectKept (objectRecord t (c .ipdus) i .depth) (depths t c i) (objectState m i)
+  ready-kept i h =
+      object-kept (objectRecord t (c .ipdus) i .depth) (depths t c i) (objectState m i) (object-fits m i (ready .bytes)) (ready .objects i h)
+
+  -- an object's row set to numbers in range
+  pub ready-object : (i : ℕ) → i < c .objects → (s : ObjectState) → ObjectKept (objectRecord t (c .ipdus) i .depth) (depths t c i) s
+      → Ready t c (withObjectState m i s)
+  unfolding stoppedAt get
+  ready-object i h s kept =
+      record {
+        right = ready .right;
+        tables = ready .tables;
+        long = omega (arith, object-length m i s room, ready .long);
+        bytes = object-bytes m i s (ready .bytes);
+        stopped = rw (object-part m i s room 0 1 (inl (omega arith))) (ready .stopped);
+        ipdus = λ k b. rw (object-keeps-ipdus m i s room k (omega (arith, b, ready .right .shape .ipdus))) (ready .ipdus k b);
+        objects = objects;
+      }
+    where
+      room : objectRow i + 16 ≤ length m
+      room = object-row i h
+
+      fits : ObjectFits s
+      fits =
+          let q = in-queues i h in
+          record {
+            value = kept .value;
+            old = kept .old;
+            occurrence = kept .occurrence;
+            marks = omega (arith, kept .marks);
+            overflow = omega (arith, kept .overflow);
+            head = omega (arith, kept .head, q .depth);
+            count = omega (arith, kept .count, q .depth);
+            queue = omega (arith, kept .queue, q .sum);
+          }
+
+      objects : (j : ℕ) → j < c .objects
+          → objectInRange (objectRecord t (c .ipdus) j .depth) (depths t c j) (objectState (withObjectState m i s) j) ≡ true
+      objects j b =
+          ⊎-elim
+          (λ (e : j ≡ i). rw (e, object-stored m i s room fits) (kept-object (objectRecord t (c .ipdus) i .depth) (depths t c i) s kept))
+          (λ (ne : j ≡ i → ⊥). rw (object-other m i s room j ne) (ready .objects j b))
+          (eq-or-ne j i)
+
+  -- an I-PDU's row set to numbers in range
+  pub ready-ipdu : (k : ℕ) → k < c .ipdus → (s : IpduState) → IpduFits s → ipduInRange (ipduOf (ipduRecord t k)) s ≡ true
+      → Ready t c (withIpduState m k s)
+  unfolding stoppedAt get
+  ready-ipdu k h s fits kept =
+      record {
+        right = ready .right;
+        tables = ready .tables;
+        long = omega (arith, ipdu-length m k s room, ready .long);
+        bytes = ipdu-bytes m k s (ready .bytes);
+        stopped = rw (ipdu-part m k s room 0 1 (inl (omega arith))) (ready .stopped);
+        ipdus = ipdus;
+        objects = λ i b. rw (ipdu-keeps-objects m k s room (omega (arith, h, ready .right .shape .ipdus)) i) (ready .objects i b);
+      }
+    where
+      room : ipduRow k + 16 ≤ length m
+      room = ipdu-row k h
+
+      ipdus : (j : ℕ) → j < c .ipdus → ipduInRange (ipduOf (ipduRecord t j)) (ipduState (withIpduState m k s) j) ≡ true
+      ipdus j b =
+          ⊎-elim
+          (λ (e : j ≡ k). rw (e, ipdu-stored m k s room fits) kept)
+          (λ (ne : j ≡ k → ⊥). rw (ipdu-other m k s room j ne) (ready .ipdus j b))
+          (eq-or-ne j k)
+
+  -- other bytes: the slots, or the queues and all behind them
+  pub ready-bytes : (at : ℕ) (f : List ℕ) → Bytes f → at + length f ≤ length m → ((528 ≤ at) × (at + length f ≤ 784)) ⊎ (2832 ≤ at)
+      → Ready t c (replaced at f m)
+  unfolding stoppedAt get
+  ready-bytes at f bs room side =
+      record {
+        right = ready .right;
+        tables = ready .tables;
+        long = omega (arith, replaced-length at f m room, ready .long);
+        bytes = replaced-bytes at f m bs (ready .bytes);
+        stopped = rw (same 0 1 (inl (omega arith))) (ready .stopped);
+        ipdus = λ k b.
+          rw (ipdu-read (replaced at f m) m k (λ o w h. same (ipduRow k + o) w (inl (omega (arith, b, ready .right .shape .ipdus)))))
+          (ready .ipdus k b);
+        objects = λ i b.
+          rw (object-read (replaced at f m) m i (λ o w h. same (objectRow i + o) w (inr (omega arith, omega (arith, b, ready .right .shape .objects)))))
+          (ready .objects i b);
+      }
+    where
+      same : (j w : ℕ) → (j + w ≤ 528) ⊎ ((784 ≤ j) × (j + w ≤ 2832)) → part j w (replaced at f m) ≡ part j w m
+      same j w row =
+          part-apart at f m j w room
+          (⊎-elim
+          (λ (low : (528 ≤ at) × (at + length f ≤ 784)).
+          ⊎-elim (λ (a : j + w ≤ 528). inl (omega (arith, low .0))) (λ (b : (784 ≤ j) × (j + w ≤ 2832)). inr (omega (arith, low .1, b .0))) row)
+          (λ (high : 2832 ≤ at).
+          ⊎-elim (λ (a : j + w ≤ 528). inl (omega arith)) (λ (b : (784 ≤ j) × (j + w ≤ 2832)). inl (omega (arith, b .1))) row)
+          side)
+
+-- ---- what was found in range, and back
+
+pub in-range-ready : (t : List ℕ) (c : Counts) (m : List ℕ) → Right t c → Bytes t → memorySize ≤ length m → Bytes m
+    → inRange t c m ≡ true → Ready t c m
+unfolding inRange
+in-range-ready t c m right bt long bm e =
+    let last = and-split (leb (stoppedAt m) 1 && not (Rattle.memory.specs.Search.any (c .ipdus) (ipduOut t m))) (not (Rattle.memory.specs.Search.any (c .objects) (objectOut t c m))) e in
+    let front = and-split (leb (stoppedAt m) 1) (not (Rattle.memory.specs.Search.any (c .ipdus) (ipduOut t m))) (last .0) in
+    record {
+      right = right;
+      tables = bt;
+      long = long;
+      bytes = bm;
+      stopped = front .0;
+      ipdus = λ k h. not-false _ (any-false (c .ipdus) (ipduOut t m) (not-true _ (front .1)) k h);
+      objects = λ i h. not-false _ (any-false (c .objects) (objectOut t c m) (not-true _ (last .1)) i h);
+    }
+
+pub ready-in-range : (t : List ℕ) (c : Counts) (m : List ℕ) → Ready t c m → inRange t c m ≡ true
+unfolding inRange
+ready-in-range t c m r =
+    rw (
+      r .stopped,
+      any-none (c .ipdus) (ipduOut t m) (λ k h. ap not (r .ipdus k h)),
+      any-none (c .objects) (objectOut t c m) (λ i h. ap not (r .objects i h)),
+    )
