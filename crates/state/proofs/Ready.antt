@@ -168,11 +168,11 @@ module _ (t : List ℕ) (c : Counts) (m : List ℕ) (ready : Ready t c m) where
         bytes = replaced-bytes at f m bs (ready .bytes);
         stopped = rw (same 0 1 (inl (omega arith))) (ready .stopped);
         ipdus = λ k b.
-          rw (ipdu-read (replaced at f m) m k (λ o w h. same (ipduRow k + o) w (inl (omega (arith, b, ready .right .shape .ipdus)))))
-          (ready .ipdus k b);
+            rw (ipdu-read (replaced at f m) m k (λ o w h. same (ipduRow k + o) w (inl (omega (arith, b, ready .right .shape .ipdus)))))
+            (ready .ipdus k b);
         objects = λ i b.
-          rw (object-read (replaced at f m) m i (λ o w h. same (objectRow i + o) w (inr (omega arith, omega (arith, b, ready .right .shape .objects)))))
-          (ready .objects i b);
+            rw (object-read (replaced at f m) m i (λ o w h. same (objectRow i + o) w (inr (omega arith, omega (arith, b, ready .right .shape .objects)))))
+            (ready .objects i b);
       }
     where
       same : (j w : ℕ) → (j + w ≤ 528) ⊎ ((784 ≤ j) × (j + w ≤ 2832)) → part j w (replaced at f m) ≡ part j w m

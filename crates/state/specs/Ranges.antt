@@ -72,4 +72,4 @@ pub record Ready (t : List ℕ) (c : Counts) (m : List ℕ) : Type 0 where
   pub stopped : leb (stoppedAt m) 1 ≡ true
   pub ipdus : (k : ℕ) → k < c .ipdus → ipduInRange (ipduOf (ipduRecord t k)) (ipduState m k) ≡ true
   pub objects : (i : ℕ) → i < c .objects
-    → objectInRange (objectRecord t (c .ipdus) i .depth) (depths t c i) (objectState m i) ≡ true
+      → objectInRange (objectRecord t (c .ipdus) i .depth) (depths t c i) (objectState m i) ≡ true

@@ -109,11 +109,7 @@ fn object_in_range(depth: u32, first: u32, s: ObjectState) -> bool
     ensures { λ b. ⌜ b ≡ objectInRange depth first s ⌝ }
 {
     let last = one_less(depth);
-    (s.marks <= 15)
-        & (s.overflow <= 1)
-        & (s.count <= depth)
-        & (s.head <= last)
-        & (s.queue == first)
+    (s.marks <= 15) & (s.overflow <= 1) & (s.count <= depth) & (s.head <= last) & (s.queue == first)
 }
 
 fn larger(a: u32, b: u32) -> u32

@@ -12,5 +12,6 @@ one-less-requires c κs = search needs
 returns : tie.Need-returns
 unfolding objectInRange
 returns c = rw (c .before .before .before .before .before .one-less .ensures)
+
 pub object-in-range-spec : {M : Type 1} → statement M
 object-in-range-spec = tie.close (tie.spec one-less-requires returns)

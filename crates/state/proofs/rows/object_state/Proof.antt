@@ -69,6 +69,7 @@ read16-requires c κs = search needs
 returns : tie.Need-returns
 unfolding objectState
 returns c = rw add-zero (cc)
+
 pub object-state-spec : {M : Type 1} → statement M
 object-state-spec =
     tie.close

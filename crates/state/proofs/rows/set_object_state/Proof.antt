@@ -84,6 +84,7 @@ returns c =
       c .before .before .before .before .before .before .before .before .before .before .before .before .before .before .before .before .before .before .before .before .before .before .before .before .before .before .before .before .before .before .before .write32 .ensures,
       add-zero,
     )
+
 pub set-object-state-spec : {M : Type 1} → statement M
 set-object-state-spec =
     tie.close

@@ -1,0 +1,228 @@
+-- What is done to a message object keeps working memory in range, and a working memory in range gives what its functions ask.
+-- Assumes nothing.
+use mathlib.Core.Bool.{Bool, true, false, _&&_}
+use mathlib.Core.List.{List}
+use mathlib.Core.Logic.{_⊎_, inl, inr, ⊎-elim}
+use mathlib.Core.Path.{_≡_, refl, sym, ap, _∙_}
+use Prim.Native.Nat.{ℕ, suc, _+_, _-_, _*_, _%_, _^_, _≤_, _<_, zero-le}
+use native.Mathlib.Nat.{mod-lt, zero-lt-suc, lt-of-lt-of-le}
+use native.Mathlib.Omega.{arith}
+use borrow.Author.Tests.{ltb-true, ltb-false, lt-ltb, le-ltb, eqb-true}
+use lib.Bits.{bitOr, or-lt}
+use lib.Dec.{ltb, eqb}
+use lib.ListN.{length}
+use Rattle.memory.specs.Bytes.{bytesOf, part, replaced}
+use Rattle.memory.specs.Search.{pick, fold}
+use Rattle.memory.proofs.Laws.{bytesOf-length, bytesOf-bytes, part-length}
+use Rattle.memory.proofs.Search.{fold-keeps}
+use Rattle.memory.proofs.Tests.{true-or-false, lt-or-le}
+use Rattle.bits.specs.Bits.{packed, unpacked}
+use Rattle.bits.proofs.Laws.{packed-length, packed-bytes, unpacked-lt}
+use Rattle.table.specs.declared.Counts.{Counts}
+use Rattle.table.specs.declared.Object.{Object}
+use Rattle.table.specs.Records.{none, objectRecord}
+use Rattle.table.specs.Check.{depths}
+use Rattle.table.specs.Decode.{objectOf}
+use Rattle.table.proofs.Accepted.{Usable, usable}
+use Rattle.state.specs.declared.ObjectState.{ObjectState}
+use Rattle.state.specs.Layout.{slotAt, objectState, withObjectState}
+use Rattle.state.specs.Ranges.{Ready}
+use Rattle.state.proofs.Ready.{ObjectKept, InQueues, in-queues, ready-kept, ready-object, ready-bytes}
+use Rattle.message.specs.Objects.{object, Held, Placed, arrived, marked, lets, filtered, around, placeAt, stored, delivered, enters, delivery, deliver, unpack}
+use Rattle.message.specs.Delivery.{insideTurn, deliverInside, frameTurn, deliverFrame, markTurn, markObjects}
+use Rattle.message.proofs.Laws.{QueueRoom, queue-room}
+
+-- ---- rows
+
+module _ (depth first : ℕ) where
+  pub kept-marked : (mark : ℕ) (s : ObjectState) → mark ≤ 15 → ObjectKept depth first s → ObjectKept depth first (marked mark s)
+  unfolding marked
+  kept-marked mark s low k =
+      record {
+        value = k .value;
+        old = k .old;
+        occurrence = k .occurrence;
+        marks =
+            let below : bitOr (s .marks) mark < 2 ^ 4 = or-lt 4 (s .marks) mark (omega (arith, k .marks)) (omega (arith, low)) in
+            omega (arith, below);
+        overflow = k .overflow;
+        count = k .count;
+        head = k .head;
+        queue = k .queue;
+      }
+
+  pub kept-filtered : (passed : Bool) (v : ℕ) (s : ObjectState) → v < 2 ^ 32 → ObjectKept depth first s
+      → ObjectKept depth first (filtered passed v s)
+  unfolding filtered
+  kept-filtered true v s h k =
+      record {
+        value = k .value;
+        old = h;
+        occurrence = mod-lt (s .occurrence + 1) (zero-lt-suc 255);
+        marks = k .marks;
+        overflow = k .overflow;
+        count = k .count;
+        head = k .head;
+        queue = k .queue;
+      }
+  kept-filtered false v s h k =
+      record {
+        value = k .value;
+        old = k .old;
+        occurrence = mod-lt (s .occurrence + 1) (zero-lt-suc 255);
+        marks = k .marks;
+        overflow = k .overflow;
+        count = k .count;
+        head = k .head;
+        queue = k .queue;
+      }
+
+  kept-value : (v : ℕ) (s : ObjectState) → v < 2 ^ 32 → ObjectKept depth first s → ObjectKept depth first (Rattle.state.specs.Updates.withValue v s)
+  kept-value v s h k =
+      record {
+        value = h;
+        old = k .old;
+        occurrence = k .occurrence;
+        marks = k .marks;
+        overflow = k .overflow;
+        count = k .count;
+        head = k .head;
+        queue = k .queue;
+      }
+
+  pub kept-queue : (lost oldest n : ℕ) (s : ObjectState) → lost ≤ 1 → n ≤ depth → oldest ≤ depth - 1 → ObjectKept depth first s
+      → ObjectKept depth first (Rattle.state.specs.Updates.withQueue lost oldest n s)
+  kept-queue lost oldest n s a b d k =
+      record {
+        value = k .value;
+        old = k .old;
+        occurrence = k .occurrence;
+        marks = k .marks;
+        overflow = a;
+        count = b;
+        head = d;
+        queue = k .queue;
+      }
+
+  kept-stored : (v : ℕ) (s : ObjectState) → v < 2 ^ 32 → ObjectKept depth first s → ObjectKept depth first (stored depth v s)
+  kept-stored v s h k =
+      ⊎-elim
+      (λ (e : eqb depth 0 ≡ true). rw e (kept-marked 1 _ (omega arith) (kept-value v s h k)))
+      (λ (e : eqb depth 0 ≡ false).
+      ⊎-elim
+      (λ (f : ltb (s .count) depth ≡ true).
+      rw (e, f)
+      (kept-marked 1 _ (omega arith)
+      (kept-queue (s .overflow) (s .head) (s .count + 1) s (k .overflow) (omega (arith, ltb-true (s .count) depth f)) (k .head) k)))
+      (λ (f : ltb (s .count) depth ≡ false). rw (e, f) (kept-queue 1 (s .head) (s .count) s (omega arith) (k .count) (k .head) k))
+      (true-or-false (ltb (s .count) depth)))
+      (true-or-false (eqb depth 0))
+
+  pub kept-delivered : (passed : Bool) (v : ℕ) (s : ObjectState) → v < 2 ^ 32 → ObjectKept depth first s
+      → ObjectKept depth first (delivered passed depth v s)
+  unfolding delivered
+  kept-delivered true v s h k = kept-stored v (filtered true v s) h (kept-filtered true v s h k)
+  kept-delivered false v s h k = kept-filtered false v s h k
+
+-- ---- what a working memory in range gives
+
+module _ (t : List ℕ) (c : Counts) (m : List ℕ) (ready : Ready t c m) (i : ℕ) (h : i < c .objects) where
+  pub ready-held : Held (object t c i) i m
+  unfolding objectOf
+  ready-held =
+      let kept = ready-kept t c m ready i h in
+      let q = in-queues t c m ready i h in
+      record {
+        number = omega (arith, h, ready .right .shape .objects);
+        long = ready .long;
+        period = usable t c (ready .right) i h .filter;
+        depth = q .depth;
+        count = kept .count;
+        head = kept .head;
+        queue = omega (arith, kept .queue, q .sum);
+      }
+
+  pub ready-placed : Placed (object t c i) m
+  unfolding objectOf
+  ready-placed =
+      record {
+        long = ready .long;
+        slot = usable t c (ready .right) i h .slot;
+        ipdu = λ e. omega (arith, usable t c (ready .right) i h .ipdu e .0, ready .right .shape .ipdus);
+      }
+
+  -- delivery keeps the ranges
+  pub ready-deliver : (v : ℕ) → v < 2 ^ 32 → Ready t c (deliver (object t c i) i v m)
+  unfolding deliver objectOf
+  ready-deliver v low =
+      ready-object t c (queued passed) (queued-ready passed) i h
+      (delivered passed (object t c i .depth) v (objectState m i))
+      (kept-delivered (objectRecord t (c .ipdus) i .depth) (depths t c i) passed v (objectState m i) low (ready-kept t c m ready i h))
+    where
+      passed : Bool
+      passed = lets (object t c i) v (objectState m i)
+
+      at : ℕ
+      at = placeAt (object t c i .depth) (objectState m i) (objectState m i .count)
+
+      queued : Bool → List ℕ
+      queued b =
+          pick (enters b (object t c i .depth) (objectState m i))
+          (replaced (placeAt (object t c i .depth) (objectState m i) (objectState m i .count)) (bytesOf 4 v) m) m
+
+      there : Ready t c (replaced (placeAt (object t c i .depth) (objectState m i) (objectState m i .count)) (bytesOf 4 v) m)
+      there =
+          let room = queue-room (object t c i) i m ready-held .room (objectState m i .count) (ready-kept t c m ready i h .count) in
+          ready-bytes t c m ready (placeAt (object t c i .depth) (objectState m i) (objectState m i .count)) (bytesOf 4 v) (bytesOf-bytes 4 v)
+          (omega (arith, room, bytesOf-length 4 v)) (inr (omega arith))
+
+      queued-ready : (b : Bool) → Ready t c (queued b)
+      queued-ready b = choose (enters b (object t c i .depth) (objectState m i))
+        where
+          choose : (e : Bool) → Ready t c (pick e (replaced (placeAt (object t c i .depth) (objectState m i) (objectState m i .count)) (bytesOf 4 v) m) m)
+          choose true = there
+          choose false = ready
+
+-- ---- turns, and all of them
+
+pub picked {ℓ} : {A : Type 0} (P : A → Type ℓ) (b : Bool) (x y : A) → P x → P y → P (pick b x y)
+picked P true x y p q = p
+picked P false x y p q = q
+
+-- the value unpacked fits 32 bits
+unpack-lt : (t : List ℕ) (c : Counts) (m : List ℕ) → Ready t c m → (i : ℕ) → i < c .objects → unpack (object t c i) m < 2 ^ 32
+unfolding unpack
+unpack-lt t c m ready i h =
+    let o = object t c i in
+    let low = ready-placed t c m ready i h .slot .most in
+    lt-of-lt-of-le (unpacked-lt (o .order) (Rattle.message.specs.Objects.startBit o) (o .size .0) (part (slotAt (o .ipdu .0)) 8 m))
+    (native.Mathlib.Nat.pow-le-pow-right (zero-lt-suc 1) low)
+
+module _ (t : List ℕ) (c : Counts) where
+  pub ready-inside-turn : (sender v : ℕ) → v < 2 ^ 32 → (i : ℕ) → i < c .objects → (m : List ℕ) → Ready t c m
+      → Ready t c (insideTurn t c sender v i m)
+  ready-inside-turn sender v low i h m ready =
+      picked (Ready t c) (eqb (objectRecord t (c .ipdus) i .sender) sender) (deliver (object t c i) i v m) m (ready-deliver t c m ready i h v low) ready
+
+  pub ready-inside : (sender v n : ℕ) → v < 2 ^ 32 → n ≤ c .objects → (m : List ℕ) → Ready t c m → Ready t c (fold n (insideTurn t c sender v) m)
+  ready-inside sender v n low h =
+      fold-keeps (Ready t c) n (insideTurn t c sender v) (λ i b. ready-inside-turn sender v low i (omega (arith, b, h)))
+
+  pub ready-frame : (k n : ℕ) → n ≤ c .objects → (m : List ℕ) → Ready t c m → Ready t c (fold n (frameTurn t c k) m)
+  ready-frame k n h = fold-keeps (Ready t c) n (frameTurn t c k) turn
+    where
+      turn : (i : ℕ) → i < n → (m : List ℕ) → Ready t c m → Ready t c (frameTurn t c k i m)
+      turn i b m ready =
+          let below : i < c .objects = omega (arith, b, h) in
+          picked (Ready t c) (eqb (objectRecord t (c .ipdus) i .ipdu) k) (deliver (object t c i) i (unpack (object t c i) m) m) m
+          (ready-deliver t c m ready i below (unpack (object t c i) m) (unpack-lt t c m ready i below)) ready
+
+  pub ready-mark : (k mark n : ℕ) → mark ≤ 15 → n ≤ c .objects → (m : List ℕ) → Ready t c m → Ready t c (fold n (markTurn t c k mark) m)
+  ready-mark k mark n low h = fold-keeps (Ready t c) n (markTurn t c k mark) turn
+    where
+      turn : (i : ℕ) → i < n → (m : List ℕ) → Ready t c m → Ready t c (markTurn t c k mark i m)
+      turn i b m ready =
+          let below : i < c .objects = omega (arith, b, h) in
+          picked (Ready t c) (eqb (objectRecord t (c .ipdus) i .ipdu) k) (withObjectState m i (marked mark (objectState m i))) m
+          (ready-object t c m ready i below (marked mark (objectState m i))
+          (kept-marked (objectRecord t (c .ipdus) i .depth) (depths t c i) mark (objectState m i) low (ready-kept t c m ready i below))) ready

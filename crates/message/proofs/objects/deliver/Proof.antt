@@ -1,0 +1,54 @@
+-- `message::objects::deliver` meets its contract.
+-- Assumes nothing.
+use borrow.Author.Needs.{needs}
+use Rattle.message.proofs.objects.deliver.Statement.{statement}
+use Rattle.message.proofs.objects.deliver.Tie as tie
+use Rattle.filter.proofs.passes.Reads as passes-reads
+use Rattle.message.proofs.objects.delivered.Reads as delivered-reads
+use Rattle.message.proofs.objects.enqueue.Reads as enqueue-reads
+use native.Mathlib.Omega.{arith}
+use Rattle.message.proofs.Laws.{queue-room}
+use Rattle.message.specs.Objects.{deliver}
+use Rattle.message.proofs.objects.place_at.Reads as place-at-reads
+use Rattle.state.proofs.object_state.Reads as object-state-reads
+use Rattle.state.proofs.set_object_state.Reads as set-object-state-reads
+
+object-state-requires : tie.Need-object-state-requires
+object-state-requires c κs = search needs
+
+passes-requires : tie.Need-passes-requires
+passes-requires c κs = search needs
+
+place-at-requires : tie.Need-place-at-requires
+place-at-requires c κs =
+    let r = queue-room (c .before .before .before .before .before .before .before .args .o) (c .before .before .before .before .before .before .before .args .number .0) (c .before .before .before .before .before .before .before .args .m .now) (c .before .before .before .before .before .before .before .pre) in
+    rw (c .before .before .before .before .object-state .ensures) (r .queue, r .head, r .count)
+
+enqueue-requires : tie.Need-enqueue-requires
+enqueue-requires c κs = rw (c .place-at .ensures, c .before .before .before .before .before .object-state .ensures) ((queue-room (c .before .before .before .before .before .before .before .before .args .o) (c .before .before .before .before .before .before .before .before .args .number .0) (c .before .before .before .before .before .before .before .before .args .m .now) (c .before .before .before .before .before .before .before .before .pre)) .room _ (c .before .before .before .before .before .before .before .before .pre .count))
+
+delivered-requires : tie.Need-delivered-requires
+delivered-requires c κs = search needs
+
+set-object-state-requires : tie.Need-set-object-state-requires
+set-object-state-requires c κs = search needs
+
+same-length : tie.Need-same-length
+same-length c = search needs
+
+returns : tie.Need-returns
+unfolding deliver
+returns c = rw (c .before .before .set-object-state .ensures, c .before .before .before .before .before .before .before .enqueue .ensures, c .before .before .before .delivered .ensures, c .before .before .before .before .before .before .before .before .place-at .ensures, c .before .before .before .before .before .before .before .before .before .before .before .before .passes .ensures, c .before .before .before .before .before .before .before .before .before .before .before .before .before .object-state .ensures)
+
+pub deliver-spec : {M : Type 1} → statement M
+deliver-spec =
+    tie.close
+    (tie.spec
+    object-state-requires
+    passes-requires
+    place-at-requires
+    enqueue-requires
+    delivered-requires
+    set-object-state-requires
+    same-length
+    returns)

@@ -1,0 +1,39 @@
+-- `message::objects::filter_sent` meets its contract.
+-- Assumes nothing.
+use borrow.Author.Needs.{needs}
+use Rattle.message.proofs.objects.filter_sent.Statement.{statement}
+use Rattle.message.proofs.objects.filter_sent.Tie as tie
+use Rattle.filter.proofs.passes.Reads as passes-reads
+use mathlib.Core.Path.{_≡_, refl, sym, ap, _∙_}
+use Rattle.message.proofs.objects.filtered.Reads as filtered-reads
+use Rattle.state.proofs.object_state.Reads as object-state-reads
+use Rattle.state.proofs.set_object_state.Reads as set-object-state-reads
+
+object-state-requires : tie.Need-object-state-requires
+object-state-requires c κs = search needs
+
+passes-requires : tie.Need-passes-requires
+passes-requires c κs = search needs
+
+filtered-requires : tie.Need-filtered-requires
+filtered-requires c κs = search needs
+
+set-object-state-requires : tie.Need-set-object-state-requires
+set-object-state-requires c κs = search needs
+
+same-length : tie.Need-same-length
+same-length c = search needs
+
+returns : tie.Need-returns
+returns c = (rw (c .before .before .before .before .before .passes .ensures, c .before .before .before .before .before .before .object-state .ensures), rw (c .before .before .set-object-state .ensures, c .before .before .before .filtered .ensures, c .before .before .before .before .before .before .object-state .ensures))
+
+pub filter-sent-spec : {M : Type 1} → statement M
+filter-sent-spec =
+    tie.close
+    (tie.spec
+    object-state-requires
+    passes-requires
+    filtered-requires
+    set-object-state-requires
+    same-length
+    returns)

@@ -1,0 +1,47 @@
+-- `message::objects::take` meets its contract.
+-- Assumes nothing.
+use borrow.Author.Needs.{needs}
+use Rattle.message.proofs.objects.take.Statement.{statement}
+use Rattle.message.proofs.objects.take.Tie as tie
+use native.Mathlib.Omega.{arith}
+use Rattle.message.proofs.Laws.{queue-room}
+use Rattle.message.specs.Objects.{take}
+use Rattle.message.proofs.objects.around.Reads as around-reads
+use Rattle.state.proofs.object_state.Reads as object-state-reads
+use Rattle.state.proofs.set_object_state.Reads as set-object-state-reads
+
+object-state-requires : tie.Need-object-state-requires
+object-state-requires c κs = search needs
+
+add-around : tie.Need-add-around
+add-around c =
+    let r = queue-room (c .before .before .before .before .args .o) (c .before .before .before .before .args .number .0) (c .before .before .before .before .args .m .now) (c .before .before .before .before .pre .0) in
+    rw (c .before .object-state .ensures) (omega (arith, r .head))
+
+around-requires : tie.Need-around-requires
+around-requires c κs = search needs
+
+sub-next : tie.Need-sub-next
+sub-next c = rw (c .before .before .before .object-state .ensures) (omega (arith, c .before .before .before .before .before .before .pre .1))
+
+set-object-state-requires : tie.Need-set-object-state-requires
+set-object-state-requires c κs = search needs
+
+same-length : tie.Need-same-length
+same-length c = search needs
+
+returns : tie.Need-returns
+unfolding take
+returns c = rw (c .before .before .set-object-state .ensures, c .before .before .before .before .before .around .ensures, c .before .before .before .before .before .before .before .object-state .ensures)
+
+pub take-spec : {M : Type 1} → statement M
+take-spec =
+    tie.close
+    (tie.spec
+    object-state-requires
+    add-around
+    around-requires
+    sub-next
+    set-object-state-requires
+    same-length
+    returns)

@@ -1,0 +1,140 @@
+-- Document 01, "Filters" and "Calls": what a filtering, a delivery, a receive and an initialise leave of one message object.
+-- Assumes nothing.
+use mathlib.Core.Bool.{Bool, true, false, _&&_}
+use mathlib.Core.Path.{_≡_}
+use mathlib.Core.List.{List}
+use Prim.Native.Nat.{ℕ, _+_, _-_, _*_, _≤_, _<_}
+use lib.Bits.{bitOr}
+use lib.Dec.{ltb, eqb}
+use lib.ListN.{length}
+use Rattle.memory.specs.Bytes.{bytesOf, part, get, replaced}
+use Rattle.memory.specs.Search.{pick}
+use Rattle.bits.specs.Bits.{packed, unpacked}
+use Rattle.bits.specs.Slots.{position, InSlot}
+use Rattle.filter.specs.Filters.{HasPeriod, passes}
+use Rattle.table.specs.declared.Counts.{Counts}
+use Rattle.table.specs.declared.Direction.{Direction}
+use Rattle.table.specs.declared.Direction.the-variants.{Send, Receive}
+use Rattle.table.specs.declared.Object.{Object}
+use Rattle.table.specs.Records.{none, objectRecord}
+use Rattle.table.specs.Decode.{objectOf}
+use Rattle.state.specs.declared.ObjectState.{ObjectState}
+use Rattle.state.specs.Layout.{memorySize, queues, slotAt, objectState, withObjectState}
+use Rattle.state.specs.Updates.{counted, withOld, withValue, withMarks, withQueue}
+
+-- message object i of a table
+abbrev pub object : List ℕ → Counts → ℕ → Object
+object t c i = objectOf (objectRecord t (c .ipdus) i)
+
+-- what its functions ask for: an object of a right table, and its row in range
+pub record Held (o : Object) (i : ℕ) (m : List ℕ) : Type 0 where
+  pub number : i < 128
+  pub long : memorySize ≤ length m
+  pub period : HasPeriod (o .filter)
+  pub depth : o .depth ≤ 16
+  pub count : objectState m i .count ≤ o .depth
+  pub head : objectState m i .head ≤ o .depth - 1
+  pub queue : objectState m i .queue + o .depth ≤ 512
+
+-- an object whose bits lie in a slot
+pub record Placed (o : Object) (m : List ℕ) : Type 0 where
+  pub long : memorySize ≤ length m
+  pub slot : InSlot (o .at) (o .size .0)
+  pub ipdu : eqb (o .ipdu .0) none ≡ false → o .ipdu .0 < 32
+
+-- ---- marks: arrived 1, sent 2, receive error 4, send error 8, added
+
+abbrev pub arrived : ℕ
+arrived = 1
+
+abbrev pub sent : ℕ
+sent = 2
+
+abbrev pub receiveError : ℕ
+receiveError = 4
+
+abbrev pub sendError : ℕ
+sendError = 8
+
+unfoldable pub marked : ℕ → ObjectState → ObjectState
+marked mark s = withMarks (bitOr (s .marks) mark) s
+
+-- ---- filters: old is the last value that passed, the occurrence rises after each filtering, passed or not
+
+abbrev pub lets : Object → ℕ → ObjectState → Bool
+lets o v s = passes (o .filter) v (s .old) (s .occurrence)
+
+unfoldable pub filtered : Bool → ℕ → ObjectState → ObjectState
+filtered passed v s = counted (pick passed (withOld v s) s)
+
+-- ---- queues: a ring of as many places as the depth
+
+-- place p of the ring: behind the last place is the first
+abbrev pub around : ℕ → ℕ → ℕ
+around depth p = pick (ltb p depth) p (p - depth)
+
+-- where the value behind the n oldest ones stands
+abbrev pub placeAt : ℕ → ObjectState → ℕ → ℕ
+placeAt depth s n = queues + 4 * (s .queue + around depth (s .head + n))
+
+-- ---- delivery: filter, then store, set old, mark arrived. A full queue loses the new value: overflow is noted, old is set,
+-- no mark.
+
+abbrev pub stored : ℕ → ℕ → ObjectState → ObjectState
+stored depth v s =
+    pick (eqb depth 0) (marked arrived (withValue v s))
+    (pick (ltb (s .count) depth) (marked arrived (withQueue (s .overflow) (s .head) (s .count + 1) s))
+    (withQueue 1 (s .head) (s .count) s))
+
+unfoldable pub delivered : Bool → ℕ → ℕ → ObjectState → ObjectState
+delivered passed depth v s = pick passed (stored depth v (filtered passed v s)) (filtered passed v s)
+
+-- the value enters the queue
+abbrev pub enters : Bool → ℕ → ObjectState → Bool
+enters passed depth s = passed && ltb (s .count) depth
+
+abbrev pub delivery : Bool → Object → ℕ → ℕ → ObjectState → List ℕ → List ℕ
+delivery passed o i v s m =
+    withObjectState
+    (pick (enters passed (o .depth) s) (replaced (placeAt (o .depth) s (s .count)) (bytesOf 4 v) m) m)
+    i (delivered passed (o .depth) v s)
+
+unfoldable pub deliver : Object → ℕ → ℕ → List ℕ → List ℕ
+deliver o i v m = delivery (lets o v (objectState m i)) o i v (objectState m i) m
+
+-- ---- receive of a queued object: the oldest value, and the queue without it and with overflow cleared
+
+unfoldable pub oldest : Object → ℕ → List ℕ → ℕ
+oldest o i m = get 4 (placeAt (o .depth) (objectState m i) 0) m
+
+abbrev pub taken : ℕ → ObjectState → ObjectState
+taken depth s = withQueue 0 (around depth (s .head + 1)) (s .count - 1) s
+
+unfoldable pub take : Object → ℕ → List ℕ → List ℕ
+take o i m = withObjectState m i (taken (o .depth) (objectState m i))
+
+-- ---- the bits of an object in its I-PDU
+
+-- its start bit
+abbrev pub startBit : Object → ℕ
+startBit o = position (o .order) (o .at)
+
+-- a value packed into the I-PDU; with no I-PDU packing does nothing
+unfoldable pub pack : Object → ℕ → List ℕ → List ℕ
+pack o v m =
+    pick (eqb (o .ipdu .0) none) m
+    (replaced (slotAt (o .ipdu .0)) (packed (o .order) (startBit o) (o .size .0) v (part (slotAt (o .ipdu .0)) 8 m)) m)
+
+-- the value unpacked from the I-PDU
+unfoldable pub unpack : Object → List ℕ → ℕ
+unpack o m = unpacked (o .order) (startBit o) (o .size .0) (part (slotAt (o .ipdu .0)) 8 m)
+
+-- ---- initialise: a send object packs; a receive object sets the value, empties the queue and clears overflow. Either way old
+-- becomes the value and the occurrence stays.
+
+abbrev pub initialiseAs : Direction → Object → ℕ → ℕ → List ℕ → List ℕ
+initialiseAs Send o i v m = withObjectState (pack o v m) i (withOld v (objectState m i))
+initialiseAs Receive o i v m = withObjectState m i (withOld v (withValue v (withQueue 0 0 0 (objectState m i))))
+
+unfoldable pub initialise : Object → ℕ → ℕ → List ℕ → List ℕ
+initialise o i v m = initialiseAs (o .direction) o i v m

@@ -1,0 +1,199 @@
+// One message object: what a filtering, a delivery, a receive and an initialise leave of it.
+use super::ARRIVED;
+use state::ObjectState;
+use state::QUEUES;
+use state::SLOTS;
+use table::Direction;
+use table::NONE;
+use table::Object;
+use table::ObjectNumber;
+ghost use mathlib.Core.Bool.{_&&_};
+ghost use mathlib.Core.Path.{_≡_};
+ghost use Prim.Native.Nat.{_+_, _≤_, _<_};
+ghost use lib.Dec.{ltb};
+ghost use lib.ListN.{length};
+ghost use Rattle.memory.specs.Bytes.{bytesOf, replaced};
+ghost use Rattle.memory.specs.Search.{pick};
+ghost use Rattle.table.specs.declared.Direction.the-variants.{Send};
+ghost use Rattle.state.specs.Layout.{objectRow, objectState, withObjectState};
+ghost use Rattle.state.specs.Updates.{withOld, withValue, withQueue};
+ghost use Rattle.message.specs.Objects.{Held, Placed, lets, filtered, around, placeAt, enters, delivered, deliver, oldest, take, pack, unpack, initialiseAs, initialise};
+
+// Delivers a value to a receive object.
+pub fn deliver(m: &mut [u8], number: ObjectNumber, o: Object, v: u32)
+    requires { ⌜ Held o (number .0) (now m) ⌝ }
+    ensures { λ _. ⌜ now (m .exit) ≡ deliver o (number .0) v (now (m .entry)) ⌝ }
+{
+    let s = state::object_state(m, number);
+    let f = o.filter;
+    let passed = filter::passes(f, v, s.old, s.occurrence);
+    enqueue(
+        m,
+        passed & (s.count < o.depth),
+        place_at(o.depth, s, s.count),
+        v,
+    );
+    state::set_object_state(m, number, delivered(passed, o.depth, v, s));
+}
+
+// Filters a value on the sending side, and answers whether it passed.
+pub fn filter_sent(m: &mut [u8], number: ObjectNumber, o: Object, v: u32) -> bool
+    requires { ⌜ Held o (number .0) (now m) ⌝ }
+    ensures passed { λ r. ⌜ r ≡ lets o v (objectState (now (m .entry)) (number .0)) ⌝ }
+    ensures row { λ r. ⌜ now (m .exit) ≡ withObjectState (now (m .entry)) (number .0) (filtered r v (objectState (now (m .entry)) (number .0))) ⌝ }
+{
+    let s = state::object_state(m, number);
+    let f = o.filter;
+    let passed = filter::passes(f, v, s.old, s.occurrence);
+    state::set_object_state(m, number, filtered(passed, v, s));
+    passed
+}
+
+// The oldest value of a queue.
+pub fn oldest(m: &[u8], number: ObjectNumber, o: Object) -> u32
+    requires { ⌜ Held o (number .0) (now m) ⌝ }
+    ensures { λ r. ⌜ r ≡ oldest o (number .0) (now (m .entry)) ⌝ }
+{
+    let s = state::object_state(m, number);
+    memory::read32(m, place_at(o.depth, s, 0))
+}
+
+// Removes the oldest value of a queue that has one, and clears overflow.
+pub fn take(m: &mut [u8], number: ObjectNumber, o: Object)
+    requires { ⌜ Held o (number .0) (now m) ⌝ }
+    requires { ⌜ 0 < objectState (now m) (number .0) .count ⌝ }
+    ensures { λ _. ⌜ now (m .exit) ≡ take o (number .0) (now (m .entry)) ⌝ }
+{
+    let s = state::object_state(m, number);
+    let mut next = s;
+    next.overflow = 0;
+    next.head = around(o.depth, s.head + 1);
+    next.count = s.count - 1;
+    state::set_object_state(m, number, next);
+}
+
+// Packs a value into the object's I-PDU, where it has one.
+pub fn pack(m: &mut [u8], o: Object, v: u32)
+    requires { ⌜ Placed o (now m) ⌝ }
+    ensures { λ _. ⌜ now (m .exit) ≡ pack o v (now (m .entry)) ⌝ }
+{
+    let k = o.ipdu.0;
+    if k == NONE {
+        return;
+    }
+    let order = o.order;
+    bits::pack_slot(m, SLOTS + 8 * (k as usize), order, o.at, o.size, v);
+}
+
+// The value that an object has in its I-PDU.
+pub(crate) fn unpack(m: &[u8], o: Object) -> u32
+    requires { ⌜ Placed o (now m) ⌝ }
+    requires { ⌜ o .ipdu .0 < 32 ⌝ }
+    ensures { λ r. ⌜ r ≡ unpack o (now (m .entry)) ⌝ }
+{
+    let k = o.ipdu.0 as usize;
+    let order = o.order;
+    bits::unpack_slot(m, SLOTS + 8 * k, order, o.at, o.size)
+}
+
+// Sets the value of an object, with no filter and no request.
+pub fn initialise(m: &mut [u8], number: ObjectNumber, o: Object, v: u32)
+    requires { ⌜ Held o (number .0) (now m) ⌝ }
+    requires { ⌜ Placed o (now m) ⌝ }
+    ensures { λ _. ⌜ now (m .exit) ≡ initialise o (number .0) v (now (m .entry)) ⌝ }
+{
+    let direction = o.direction;
+    match direction {
+        Direction::Send => initialise_send(m, number, o, v),
+        Direction::Receive => initialise_receive(m, number, v),
+    }
+}
+
+fn initialise_send(m: &mut [u8], number: ObjectNumber, o: Object, v: u32)
+    requires { ⌜ Held o (number .0) (now m) ⌝ }
+    requires { ⌜ Placed o (now m) ⌝ }
+    ensures { λ _. ⌜ now (m .exit) ≡ initialiseAs Send o (number .0) v (now (m .entry)) ⌝ }
+{
+    let mut s = state::object_state(m, number);
+    s.old = v;
+    pack(m, o, v);
+    state::set_object_state(m, number, s);
+}
+
+fn initialise_receive(m: &mut [u8], number: ObjectNumber, v: u32)
+    requires { ⌜ objectRow (number .0) + 16 ≤ length (now m) ⌝ }
+    ensures { λ _. ⌜ now (m .exit) ≡ withObjectState (now (m .entry)) (number .0) (withOld v (withValue v (withQueue 0 0 0 (objectState (now (m .entry)) (number .0))))) ⌝ }
+{
+    let mut s = state::object_state(m, number);
+    s.old = v;
+    s.value = v;
+    s.overflow = 0;
+    s.head = 0;
+    s.count = 0;
+    state::set_object_state(m, number, s);
+}
+
+// The numbers of an object after a filtering.
+fn filtered(passed: bool, v: u32, s: ObjectState) -> ObjectState
+    ensures { λ r. ⌜ r ≡ filtered passed v s ⌝ }
+{
+    let mut next = s;
+    next.occurrence = filter::next_occurrence(s.occurrence);
+    if passed {
+        next.old = v;
+        return next;
+    }
+    next
+}
+
+// The numbers of an object after a delivery.
+fn delivered(passed: bool, depth: u32, v: u32, s: ObjectState) -> ObjectState
+    ensures { λ r. ⌜ r ≡ delivered passed depth v s ⌝ }
+{
+    let mut next = filtered(passed, v, s);
+    if !passed {
+        return next;
+    }
+    if depth == 0 {
+        next.value = v;
+        next.marks = next.marks | ARRIVED;
+        return next;
+    }
+    if next.count < depth {
+        next.count = next.count + 1;
+        next.marks = next.marks | ARRIVED;
+        return next;
+    }
+    next.overflow = 1;
+    next
+}
+
+// Writes a value at its place, where it enters the queue.
+fn enqueue(m: &mut [u8], enters: bool, at: usize, v: u32)
+    requires { ⌜ at + 4 ≤ length (now m) ⌝ }
+    ensures { λ _. ⌜ now (m .exit) ≡ pick enters (replaced at (bytesOf 4 v) (now (m .entry))) (now (m .entry)) ⌝ }
+{
+    if !enters {
+        return;
+    }
+    memory::write32(m, at, v);
+}
+
+// The byte where the value behind the `n` oldest ones stands.
+fn place_at(depth: u32, s: ObjectState, n: u32) -> usize
+    requires { ⌜ (s .queue ≤ 512) × (s .head ≤ 16) × (n ≤ 16) ⌝ }
+    ensures { λ r. ⌜ r ≡ placeAt depth s n ⌝ }
+{
+    let place = s.queue + around(depth, s.head + n);
+    QUEUES + 4 * (place as usize)
+}
+
+// Place `p` of a ring: behind the last place is the first.
+fn around(depth: u32, p: u32) -> u32
+    ensures { λ r. ⌜ r ≡ around depth p ⌝ }
+{
+    if p < depth {
+        return p;
+    }
+    p - depth
+}
