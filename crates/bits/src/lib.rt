@@ -7,6 +7,7 @@ mod walk;
 mod word;
 
 pub use walk::position;
+pub use word::power_of_two;
 ghost use mathlib.Core.Path.{_≡_};
 ghost use Prim.Native.Nat.{ℕ, _+_, _≤_, _<_};
 ghost use lib.ListN.{length};

@@ -34,7 +34,8 @@ pub(crate) fn turned(order: Order, word: u64) -> u64
     }
 }
 
-fn power_of_two(n: u32) -> u64
+// 2 to the power n.
+pub fn power_of_two(n: u32) -> u64
     requires { ⌜ n < 64 ⌝ }
     ensures { λ r. ⌜ r ≡ 2 ^ n ⌝ }
 {

@@ -4,11 +4,12 @@ use mathlib.Core.Logic.{_⊎_, inl, inr, ⊎-elim}
 use mathlib.Core.Path.{_≡_, refl, sym, ap, _∙_}
 use mathlib.Core.List.{List, [], _∷_, _++_, append-assoc, append-nil}
 use Prim.Native.Nat.{ℕ, zero, suc, _+_, _-_, _*_, _/_, _%_, _^_, _≤_, _<_, min}
-use native.Mathlib.Nat.{zero-mod, mod-lt, one-le-pow, zero-lt-suc, pow-succ', mul-comm}
+use native.Mathlib.Nat.{zero-mod, mod-lt, one-le-pow, zero-lt-suc, pow-succ', mul-comm, le-of-suc-le-suc}
 use native.Mathlib.Numerals.{add-one}
 use native.Mathlib.Omega.{arith}
 use lib.ListN.{drop-of-length-le, replicate, length, getD, take, drop, length-take, length-drop, length-append, List·getD-append, List·getD-eq-default}
 use lib.Arith.{mod-mul}
+use lib.Pow.{pow-add}
 use lib.Seq.{ext-getD, sets, sets-eq, take-nil, take-all, take-at, drop-at, length-take-le, getD-take, getD-drop, getD-append-add}
 use Rattle.memory.proofs.Tests.{lt-or-le}
 use Rattle.memory.specs.Bytes.{Bytes, value, bytesOf, part, get, replaced}
@@ -175,6 +176,32 @@ bytesOf-value (b ∷ f) k bs =
     let here : (b + 256 * value f) % 256 ≡ b = omega arith in
     let longer : length (b ∷ f) + k ≡ suc (length f + k) = omega arith in
     rw (longer, rest, here, bytesOf-value f k (λ i. bs (suc i)))
+
+-- a byte has 8 bits
+pub bytes-bits : (k : ℕ) → 256 ^ k ≡ 2 ^ (8 * k)
+bytes-bits zero = refl
+bytes-bits (suc k) =
+    let more : 8 * suc k ≡ 8 + 8 * k = omega arith in
+    rw (pow-succ', more, pow-add 2 8 (8 * k), bytes-bits k)
+
+take-front : (n k : ℕ) (f : List ℕ) → n ≤ k → take n (take k f) ≡ take n f
+take-front zero k f h = refl
+take-front (suc n) zero f h = absurd (omega arith)
+take-front (suc n) (suc k) [] h = refl
+take-front (suc n) (suc k) (b ∷ f) h = ap (λ (g : List ℕ). b ∷ g) (take-front n k f (le-of-suc-le-suc h))
+
+-- the first n of 8 bytes with zeros to 8, as a number
+pub bytesOf-front : (n at : ℕ) (m : List ℕ) → Bytes m → n ≤ 8 → at + 8 ≤ length m
+    → bytesOf 8 (get 8 at m % 256 ^ n) ≡ part at n m ++ replicate (8 - n) 0
+unfolding get part
+bytesOf-front n at m bs low room =
+    let whole : Bytes (drop at m) = λ i. rw (getD-drop at m i 0) (bs (at + i)) in
+    let first : Bytes (take 8 (drop at m)) = part-bytes at 8 m bs in
+    let front : value (take n (drop at m)) ≡ value (take 8 (drop at m)) % 256 ^ n =
+    sym (ap value (take-front n 8 (drop at m) low)) ∙ value-take n (take 8 (drop at m)) first in
+    let long : length (take n (drop at m)) ≡ n = part-length at n m (omega (arith, low, room)) in
+    let all : length (take n (drop at m)) + (8 - n) ≡ 8 = omega (arith, long, low) in
+    rw (← front) (rw all at (bytesOf-value (take n (drop at m)) (8 - n) (part-bytes at n m bs)))
 
 -- ---- bytes stay bytes
 

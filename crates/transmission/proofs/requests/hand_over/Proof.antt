@@ -1,0 +1,51 @@
+-- `transmission::requests::hand_over` meets its contract.
+-- Assumes nothing.
+use borrow.Author.Needs.{needs}
+use Rattle.transmission.proofs.requests.hand_over.Statement.{statement}
+use Rattle.transmission.proofs.requests.hand_over.Tie as tie
+use mathlib.Core.Path.{_≡_, refl, sym, ap, _∙_}
+use Prim.Native.Nat.{_+_, _*_}
+use native.Mathlib.Omega.{arith}
+use Rattle.memory.proofs.Laws.{bytesOf-front}
+use Rattle.transmission.specs.Requests.{handed}
+use Rattle.memory.proofs.read64.Reads as read64-reads
+use Rattle.memory.proofs.write64.Reads as write64-reads
+use Rattle.transmission.proofs.requests.low_bytes.Reads as low-bytes-reads
+
+cast-at : tie.Need-cast-at
+cast-at c = search needs
+
+mul-at : tie.Need-mul-at
+mul-at c = search needs
+
+add-read64 : tie.Need-add-read64
+add-read64 c = search needs
+
+read64-requires : tie.Need-read64-requires
+read64-requires c κs = search needs
+
+low-bytes-requires : tie.Need-low-bytes-requires
+low-bytes-requires c κs = search needs
+
+write64-requires : tie.Need-write64-requires
+write64-requires c κs = search needs
+
+same-length : tie.Need-same-length
+same-length c = search needs
+
+returns : tie.Need-returns
+unfolding handed
+returns c = rw (c .before .before .write64 .ensures, c .before .before .before .low-bytes .ensures, c .before .before .before .before .before .read64 .ensures, bytesOf-front (c .before .before .before .before .before .before .before .before .before .args .size .0) (528 + 8 * (c .before .before .before .before .before .before .before .before .before .args .number .0)) (c .before .before .before .before .before .before .before .before .before .args .m .now) (λ i. c .before .before .before .before .before .before .before .before .shared-slice-known .given i .fits) (c .before .before .before .before .before .before .before .before .before .pre .3) (omega (arith, c .before .before .before .before .before .before .before .before .before .pre .0, c .before .before .before .before .before .before .before .before .before .pre .1)))
+
+pub hand-over-spec : {M : Type 1} → statement M
+hand-over-spec =
+    tie.close
+    (tie.spec
+    cast-at
+    mul-at
+    add-read64
+    read64-requires
+    low-bytes-requires
+    write64-requires
+    same-length
+    returns)

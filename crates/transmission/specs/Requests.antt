@@ -1,0 +1,71 @@
+-- Document 01, "Calls": the requests, the period and the timer of one I-PDU, and its bytes in the request area.
+-- Assumes nothing.
+use mathlib.Core.Bool.{Bool, true, false, _&&_}
+use mathlib.Core.List.{List, _++_}
+use Prim.Native.Nat.{ℕ, _-_, _*_}
+use lib.Dec.{eqb}
+use lib.ListN.{replicate}
+use Rattle.memory.specs.Bytes.{part, replaced}
+use Rattle.memory.specs.Search.{pick, fold}
+use Rattle.table.specs.declared.Counts.{Counts}
+use Rattle.table.specs.declared.Ipdu.{Ipdu}
+use Rattle.table.specs.declared.Mode.{Mode}
+use Rattle.table.specs.declared.Mode.the-variants.{Direct, Periodic, Mixed}
+use Rattle.table.specs.Records.{ipduRecord}
+use Rattle.table.specs.Decode.{ipduOf}
+use Rattle.state.specs.declared.IpduState.{IpduState}
+use Rattle.state.specs.Layout.{slotAt, ipduState, withIpduState}
+use Rattle.state.specs.Updates.{withRequest, withWanted, withDelay, withPeriod, withTimer}
+
+-- I-PDU k of a table
+abbrev pub ipdu : List ℕ → ℕ → Ipdu
+ipdu t k = ipduOf (ipduRecord t k)
+
+-- ---- requests
+
+-- a request may go in mode 1 always, else when the delay is 0 and none is open
+abbrev pub mayGo : Mode → IpduState → Bool
+mayGo Direct s = eqb (s .delay) 0 && eqb (s .requested) 0
+mayGo Periodic s = true
+mayGo Mixed s = eqb (s .delay) 0 && eqb (s .requested) 0
+
+-- a wanted request is made if it may go
+unfoldable pub goes : Ipdu → IpduState → Bool
+goes p s = eqb (s .wanted) 1 && mayGo (p .mode) s
+
+-- a request made clears the want, and sets the deadline to D if none was open
+unfoldable pub made : Ipdu → IpduState → IpduState
+made p s = withWanted 0 (withRequest 1 (pick (eqb (s .requested) 0) (p .deadline) (s .deadline)) s)
+
+unfoldable pub offered : Ipdu → IpduState → IpduState
+offered p s = pick (goes p s) (made p s) s
+
+-- slot k of the request area gets I-PDU k's bytes with zeros to 8; other slots stay
+unfoldable pub handed : ℕ → ℕ → List ℕ → List ℕ → List ℕ
+handed length k m area = replaced (8 * k) (part (slotAt k) length m ++ replicate (8 - length) 0) area
+
+-- confirm closes the open request; good sets the delay to M, not good to 0
+unfoldable pub confirmed : Bool → Ipdu → IpduState → IpduState
+confirmed good p s = withDelay (pick good (p .«minimum_delay») 0) (withRequest 0 0 s)
+
+-- ---- the period of the modes 1 and 2
+
+abbrev pub hasPeriod : Mode → Bool
+hasPeriod Direct = false
+hasPeriod Periodic = true
+hasPeriod Mixed = true
+
+-- start periodic sets the countdown to the offset, running or not; stop periodic halts it
+unfoldable pub periodSet : Bool → Ipdu → IpduState → IpduState
+periodSet on p s = pick on (withPeriod 1 (p .offset) s) (withPeriod 0 (s .countdown) s)
+
+abbrev pub periodTurn : Bool → List ℕ → ℕ → List ℕ → List ℕ
+periodTurn on t k m = pick (hasPeriod (ipdu t k .mode)) (withIpduState m k (periodSet on (ipdu t k) (ipduState m k))) m
+
+unfoldable pub setPeriods : Bool → List ℕ → Counts → List ℕ → List ℕ
+setPeriods on t c m = fold (c .ipdus) (periodTurn on t) m
+
+-- ---- the receive timer: a good indication sets it to R
+
+unfoldable pub timerSet : Ipdu → IpduState → IpduState
+timerSet p s = withTimer (p .deadline) s

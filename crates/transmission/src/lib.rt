@@ -1,0 +1,12 @@
+// Requests of I-PDUs: when one is wanted, made, postponed and closed, the bytes handed over with it, and the period. Its
+// functions work on an accepted table and a working memory that was found in range.
+mod periods;
+mod requests;
+
+pub use periods::set_periods;
+pub use requests::confirm;
+pub use requests::offer;
+pub use requests::set_timer;
+
+// The bytes of the request area that are used, eight for each I-PDU.
+pub const AREA_SIZE: usize = 256;
