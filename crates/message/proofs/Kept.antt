@@ -18,6 +18,7 @@ use Rattle.memory.proofs.Search.{fold-keeps}
 use Rattle.memory.proofs.Tests.{true-or-false, lt-or-le}
 use Rattle.bits.specs.Bits.{packed, unpacked}
 use Rattle.bits.proofs.Laws.{packed-length, packed-bytes, unpacked-lt}
+use Rattle.filter.specs.Filters.{HasPeriod}
 use Rattle.table.specs.declared.Counts.{Counts}
 use Rattle.table.specs.declared.Object.{Object}
 use Rattle.table.specs.Records.{none, objectRecord}
@@ -127,7 +128,7 @@ module _ (depth first : ℕ) where
 -- ---- what a working memory in range gives
 
 module _ (t : List ℕ) (c : Counts) (m : List ℕ) (ready : Ready t c m) (i : ℕ) (h : i < c .objects) where
-  pub ready-held : Held (object t c i) i m
+  pub ready-held : Held (object t c i .depth) i m
   unfolding objectOf
   ready-held =
       let kept = ready-kept t c m ready i h in
@@ -135,12 +136,15 @@ module _ (t : List ℕ) (c : Counts) (m : List ℕ) (ready : Ready t c m) (i : �
       record {
         number = omega (arith, h, ready .right .shape .objects);
         long = ready .long;
-        period = usable t c (ready .right) i h .filter;
-        depth = q .depth;
+        few = q .depth;
         count = kept .count;
         head = kept .head;
         queue = omega (arith, kept .queue, q .sum);
       }
+
+  pub ready-period : HasPeriod (object t c i .filter)
+  unfolding objectOf
+  ready-period = usable t c (ready .right) i h .filter
 
   pub ready-placed : Placed (object t c i) m
   unfolding objectOf
@@ -172,7 +176,7 @@ module _ (t : List ℕ) (c : Counts) (m : List ℕ) (ready : Ready t c m) (i : �
 
       there : Ready t c (replaced (placeAt (object t c i .depth) (objectState m i) (objectState m i .count)) (bytesOf 4 v) m)
       there =
-          let room = queue-room (object t c i) i m ready-held .room (objectState m i .count) (ready-kept t c m ready i h .count) in
+          let room = queue-room (object t c i .depth) i m ready-held .room (objectState m i .count) (ready-kept t c m ready i h .count) in
           ready-bytes t c m ready (placeAt (object t c i .depth) (objectState m i) (objectState m i .count)) (bytesOf 4 v) (bytesOf-bytes 4 v)
           (omega (arith, room, bytesOf-length 4 v)) (inr (omega arith))
 

@@ -10,7 +10,6 @@ use borrow.Author.Tests.{lt-ltb, le-ltb}
 use lib.Dec.{ltb}
 use lib.ListN.{length}
 use Rattle.memory.proofs.Tests.{lt-or-le}
-use Rattle.table.specs.declared.Object.{Object}
 use Rattle.state.specs.declared.ObjectState.{ObjectState}
 use Rattle.state.specs.Layout.{objectState}
 use Rattle.message.specs.Objects.{Held, around, placeAt}
@@ -37,21 +36,21 @@ pub record QueueRoom (depth : ℕ) (s : ObjectState) (end : ℕ) : Type 0 where
   pub count : s .count ≤ 16
   pub room : (n : ℕ) → n ≤ depth → placeAt depth s n + 4 ≤ end
 
-pub queue-room : (o : Object) (i : ℕ) (m : List ℕ) → Held o i m → QueueRoom (o .depth) (objectState m i) (length m)
-queue-room o i m h =
+pub queue-room : (depth i : ℕ) (m : List ℕ) → Held depth i m → QueueRoom depth (objectState m i) (length m)
+queue-room depth i m h =
     record {
       queue = omega (arith, h .queue);
-      head = omega (arith, h .head, h .depth);
-      count = omega (arith, h .count, h .depth);
+      head = omega (arith, h .head, h .few);
+      count = omega (arith, h .count, h .few);
       room = room;
     }
   where
-    inside : (n : ℕ) → n ≤ o .depth → objectState m i .queue + around (o .depth) (objectState m i .head + n) ≤ 512
+    inside : (n : ℕ) → n ≤ depth → objectState m i .queue + around depth (objectState m i .head + n) ≤ 512
     inside n b =
         ⊎-elim
-        (λ (some : 0 < o .depth). omega (arith, h .queue, around-lt (o .depth) (objectState m i .head + n) (omega (arith, b, h .head))))
-        (λ (empty : o .depth ≤ 0). omega (arith, h .queue, around-low (o .depth) (objectState m i .head + n), b, h .head))
-        (lt-or-le 0 (o .depth))
+        (λ (some : 0 < depth). omega (arith, h .queue, around-lt depth (objectState m i .head + n) (omega (arith, b, h .head))))
+        (λ (empty : depth ≤ 0). omega (arith, h .queue, around-low depth (objectState m i .head + n), b, h .head))
+        (lt-or-le 0 depth)
 
-    room : (n : ℕ) → n ≤ o .depth → placeAt (o .depth) (objectState m i) n + 4 ≤ length m
+    room : (n : ℕ) → n ≤ depth → placeAt depth (objectState m i) n + 4 ≤ length m
     room n b = omega (arith, inside n b, h .long)

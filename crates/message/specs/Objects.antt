@@ -11,7 +11,7 @@ use Rattle.memory.specs.Bytes.{bytesOf, part, get, replaced}
 use Rattle.memory.specs.Search.{pick}
 use Rattle.bits.specs.Bits.{packed, unpacked}
 use Rattle.bits.specs.Slots.{position, InSlot}
-use Rattle.filter.specs.Filters.{HasPeriod, passes}
+use Rattle.filter.specs.Filters.{passes}
 use Rattle.table.specs.declared.Counts.{Counts}
 use Rattle.table.specs.declared.Direction.{Direction}
 use Rattle.table.specs.declared.Direction.the-variants.{Send, Receive}
@@ -26,15 +26,14 @@ use Rattle.state.specs.Updates.{counted, withOld, withValue, withMarks, withQue
 abbrev pub object : List ℕ → Counts → ℕ → Object
 object t c i = objectOf (objectRecord t (c .ipdus) i)
 
--- what its functions ask for: an object of a right table, and its row in range
-pub record Held (o : Object) (i : ℕ) (m : List ℕ) : Type 0 where
+-- what its functions ask for: a row in range, of an object with this queue depth
+pub record Held (depth i : ℕ) (m : List ℕ) : Type 0 where
   pub number : i < 128
   pub long : memorySize ≤ length m
-  pub period : HasPeriod (o .filter)
-  pub depth : o .depth ≤ 16
-  pub count : objectState m i .count ≤ o .depth
-  pub head : objectState m i .head ≤ o .depth - 1
-  pub queue : objectState m i .queue + o .depth ≤ 512
+  pub few : depth ≤ 16
+  pub count : objectState m i .count ≤ depth
+  pub head : objectState m i .head ≤ depth - 1
+  pub queue : objectState m i .queue + depth ≤ 512
 
 -- an object whose bits lie in a slot
 pub record Placed (o : Object) (m : List ℕ) : Type 0 where
@@ -104,14 +103,14 @@ deliver o i v m = delivery (lets o v (objectState m i)) o i v (objectState m i) 
 
 -- ---- receive of a queued object: the oldest value, and the queue without it and with overflow cleared
 
-unfoldable pub oldest : Object → ℕ → List ℕ → ℕ
-oldest o i m = get 4 (placeAt (o .depth) (objectState m i) 0) m
+unfoldable pub oldest : ℕ → ℕ → List ℕ → ℕ
+oldest depth i m = get 4 (placeAt depth (objectState m i) 0) m
 
 abbrev pub taken : ℕ → ObjectState → ObjectState
 taken depth s = withQueue 0 (around depth (s .head + 1)) (s .count - 1) s
 
-unfoldable pub take : Object → ℕ → List ℕ → List ℕ
-take o i m = withObjectState m i (taken (o .depth) (objectState m i))
+unfoldable pub take : ℕ → ℕ → List ℕ → List ℕ
+take depth i m = withObjectState m i (taken depth (objectState m i))
 
 -- ---- the bits of an object in its I-PDU
 

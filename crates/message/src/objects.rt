@@ -14,6 +14,7 @@ ghost use lib.Dec.{ltb};
 ghost use lib.ListN.{length};
 ghost use Rattle.memory.specs.Bytes.{bytesOf, replaced};
 ghost use Rattle.memory.specs.Search.{pick};
+ghost use Rattle.filter.specs.Filters.{HasPeriod};
 ghost use Rattle.table.specs.declared.Direction.the-variants.{Send};
 ghost use Rattle.state.specs.Layout.{objectRow, objectState, withObjectState};
 ghost use Rattle.state.specs.Updates.{withOld, withValue, withQueue};
@@ -21,7 +22,8 @@ ghost use Rattle.message.specs.Objects.{Held, Placed, lets, filtered, ar
 
 // Delivers a value to a receive object.
 pub fn deliver(m: &mut [u8], number: ObjectNumber, o: Object, v: u32)
-    requires { ⌜ Held o (number .0) (now m) ⌝ }
+    requires { ⌜ Held (o .depth) (number .0) (now m) ⌝ }
+    requires { ⌜ HasPeriod (o .filter) ⌝ }
     ensures { λ _. ⌜ now (m .exit) ≡ deliver o (number .0) v (now (m .entry)) ⌝ }
 {
     let s = state::object_state(m, number);
@@ -38,7 +40,8 @@ pub fn deliver(m: &mut [u8], number: ObjectNumber, o: Object, v: u32)
 
 // Filters a value on the sending side, and answers whether it passed.
 pub fn filter_sent(m: &mut [u8], number: ObjectNumber, o: Object, v: u32) -> bool
-    requires { ⌜ Held o (number .0) (now m) ⌝ }
+    requires { ⌜ objectRow (number .0) + 16 ≤ length (now m) ⌝ }
+    requires { ⌜ HasPeriod (o .filter) ⌝ }
     ensures passed { λ r. ⌜ r ≡ lets o v (objectState (now (m .entry)) (number .0)) ⌝ }
     ensures row { λ r. ⌜ now (m .exit) ≡ withObjectState (now (m .entry)) (number .0) (filtered r v (objectState (now (m .entry)) (number .0))) ⌝ }
 {
@@ -50,24 +53,24 @@ pub fn filter_sent(m: &mut [u8], number: ObjectNumber, o: Object, v: u32) -> boo
 }
 
 // The oldest value of a queue.
-pub fn oldest(m: &[u8], number: ObjectNumber, o: Object) -> u32
-    requires { ⌜ Held o (number .0) (now m) ⌝ }
-    ensures { λ r. ⌜ r ≡ oldest o (number .0) (now (m .entry)) ⌝ }
+pub fn oldest(m: &[u8], number: ObjectNumber, depth: u32) -> u32
+    requires { ⌜ Held depth (number .0) (now m) ⌝ }
+    ensures { λ r. ⌜ r ≡ oldest depth (number .0) (now (m .entry)) ⌝ }
 {
     let s = state::object_state(m, number);
-    memory::read32(m, place_at(o.depth, s, 0))
+    memory::read32(m, place_at(depth, s, 0))
 }
 
 // Removes the oldest value of a queue that has one, and clears overflow.
-pub fn take(m: &mut [u8], number: ObjectNumber, o: Object)
-    requires { ⌜ Held o (number .0) (now m) ⌝ }
+pub fn take(m: &mut [u8], number: ObjectNumber, depth: u32)
+    requires { ⌜ Held depth (number .0) (now m) ⌝ }
     requires { ⌜ 0 < objectState (now m) (number .0) .count ⌝ }
-    ensures { λ _. ⌜ now (m .exit) ≡ take o (number .0) (now (m .entry)) ⌝ }
+    ensures { λ _. ⌜ now (m .exit) ≡ take depth (number .0) (now (m .entry)) ⌝ }
 {
     let s = state::object_state(m, number);
     let mut next = s;
     next.overflow = 0;
-    next.head = around(o.depth, s.head + 1);
+    next.head = around(depth, s.head + 1);
     next.count = s.count - 1;
     state::set_object_state(m, number, next);
 }
@@ -98,7 +101,7 @@ pub(crate) fn unpack(m: &[u8], o: Object) -> u32
 
 // Sets the value of an object, with no filter and no request.
 pub fn initialise(m: &mut [u8], number: ObjectNumber, o: Object, v: u32)
-    requires { ⌜ Held o (number .0) (now m) ⌝ }
+    requires { ⌜ objectRow (number .0) + 16 ≤ length (now m) ⌝ }
     requires { ⌜ Placed o (now m) ⌝ }
     ensures { λ _. ⌜ now (m .exit) ≡ initialise o (number .0) v (now (m .entry)) ⌝ }
 {
@@ -110,7 +113,7 @@ pub fn initialise(m: &mut [u8], number: ObjectNumber, o: Object, v: u32)
 }
 
 fn initialise_send(m: &mut [u8], number: ObjectNumber, o: Object, v: u32)
-    requires { ⌜ Held o (number .0) (now m) ⌝ }
+    requires { ⌜ objectRow (number .0) + 16 ≤ length (now m) ⌝ }
     requires { ⌜ Placed o (now m) ⌝ }
     ensures { λ _. ⌜ now (m .exit) ≡ initialiseAs Send o (number .0) v (now (m .entry)) ⌝ }
 {

@@ -11,7 +11,7 @@ use borrow.Author.Tests.{lt-ltb, le-ltb, eq-eqb, ne-eqb, not-true, not-false}
 use Rattle.table.specs.declared.ObjectRecord.{ObjectRecord}
 use Rattle.table.specs.Decode.{objectOf}
 use Rattle.table.proofs.Accepted.{usable}
-use Rattle.message.proofs.Kept.{ready-held, ready-placed}
+use Rattle.message.proofs.Kept.{ready-held, ready-period, ready-placed}
 use Rattle.message.proofs.objects.unpack.Reads as unpack-reads
 use Rattle.table.proofs.decode_object.Reads as decode-object-reads
 use Rattle.table.proofs.object_record.Reads as object-record-reads
@@ -34,7 +34,7 @@ unpack-requires c κs =
     rw (c .before .decode-object .ensures) (ready-placed (c .before .before .before .before .before .before .before .before .args .t .now) (c .before .before .before .before .before .before .before .before .args .c) (c .before .before .before .before .before .before .before .before .args .m .now) (c .before .before .before .before .before .before .before .before .pre .0) (c .before .before .before .before .before .before .before .before .args .number .0) (c .before .before .before .before .before .before .before .before .pre .1 .0), omega (arith, sym here ∙ c .before .before .if1 .left, c .before .before .before .before .before .before .before .before .pre .1 .1, c .before .before .before .before .before .before .before .before .pre .0 .right .shape .ipdus))
 
 deliver-requires : tie.Need-deliver-requires
-deliver-requires c κs = rw (c .before .before .before .decode-object .ensures) (ready-held (c .before .before .before .before .before .before .before .before .before .before .args .t .now) (c .before .before .before .before .before .before .before .before .before .before .args .c) (c .before .before .before .before .before .before .before .before .before .before .args .m .now) (c .before .before .before .before .before .before .before .before .before .before .pre .0) (c .before .before .before .before .before .before .before .before .before .before .args .number .0) (c .before .before .before .before .before .before .before .before .before .before .pre .1 .0))
+deliver-requires c κs = rw (c .before .before .before .decode-object .ensures) (ready-held (c .before .before .before .before .before .before .before .before .before .before .args .t .now) (c .before .before .before .before .before .before .before .before .before .before .args .c) (c .before .before .before .before .before .before .before .before .before .before .args .m .now) (c .before .before .before .before .before .before .before .before .before .before .pre .0) (c .before .before .before .before .before .before .before .before .before .before .args .number .0) (c .before .before .before .before .before .before .before .before .before .before .pre .1 .0), ready-period (c .before .before .before .before .before .before .before .before .before .before .args .t .now) (c .before .before .before .before .before .before .before .before .before .before .args .c) (c .before .before .before .before .before .before .before .before .before .before .args .m .now) (c .before .before .before .before .before .before .before .before .before .before .pre .0) (c .before .before .before .before .before .before .before .before .before .before .args .number .0) (c .before .before .before .before .before .before .before .before .before .before .pre .1 .0))
 
 same-length : tie.Need-same-length
 same-length c = search needs

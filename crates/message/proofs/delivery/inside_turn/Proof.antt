@@ -8,7 +8,7 @@ use native.Mathlib.Omega.{arith}
 use borrow.Author.Tests.{lt-ltb, le-ltb, eq-eqb, ne-eqb, not-true, not-false}
 use Rattle.table.specs.declared.ObjectRecord.{ObjectRecord}
 use Rattle.table.proofs.Accepted.{usable}
-use Rattle.message.proofs.Kept.{ready-held}
+use Rattle.message.proofs.Kept.{ready-held, ready-period}
 use Rattle.message.proofs.objects.deliver.Reads as deliver-reads
 use Rattle.table.proofs.decode_object.Reads as decode-object-reads
 use Rattle.table.proofs.object_record.Reads as object-record-reads
@@ -25,7 +25,7 @@ decode-object-requires : tie.Need-decode-object-requires
 decode-object-requires c κs = (omega (arith, c .before .before .before .before .before .before .before .pre .1, c .before .before .before .before .before .before .before .pre .0 .right .shape .long), usable (c .before .before .before .before .before .before .before .args .t .now) (c .before .before .before .before .before .before .before .args .c) (c .before .before .before .before .before .before .before .pre .0 .right) (c .before .before .before .before .before .before .before .args .number .0) (c .before .before .before .before .before .before .before .pre .1) .start)
 
 deliver-requires : tie.Need-deliver-requires
-deliver-requires c κs = rw (c .decode-object .ensures) (ready-held (c .before .before .before .before .before .before .before .before .args .t .now) (c .before .before .before .before .before .before .before .before .args .c) (c .before .before .before .before .before .before .before .before .args .m .now) (c .before .before .before .before .before .before .before .before .pre .0) (c .before .before .before .before .before .before .before .before .args .number .0) (c .before .before .before .before .before .before .before .before .pre .1))
+deliver-requires c κs = rw (c .decode-object .ensures) (ready-held (c .before .before .before .before .before .before .before .before .args .t .now) (c .before .before .before .before .before .before .before .before .args .c) (c .before .before .before .before .before .before .before .before .args .m .now) (c .before .before .before .before .before .before .before .before .pre .0) (c .before .before .before .before .before .before .before .before .args .number .0) (c .before .before .before .before .before .before .before .before .pre .1), ready-period (c .before .before .before .before .before .before .before .before .args .t .now) (c .before .before .before .before .before .before .before .before .args .c) (c .before .before .before .before .before .before .before .before .args .m .now) (c .before .before .before .before .before .before .before .before .pre .0) (c .before .before .before .before .before .before .before .before .args .number .0) (c .before .before .before .before .before .before .before .before .pre .1))
 
 same-length : tie.Need-same-length
 same-length c = search needs

@@ -1,0 +1,71 @@
+-- Document 01, "What comes back": the number of an answer, what it returns, and what the call left of the lent bytes.
+-- Assumes nothing.
+use mathlib.Core.Bool.{Bool, true, false, _&&_}
+use mathlib.Core.List.{List, []}
+use Prim.Native.Nat.{ℕ}
+use lib.Dec.{leb, eqb}
+use lib.ListN.{length}
+use Rattle.memory.specs.Search.{pick}
+use Rattle.table.specs.declared.Counts.{Counts}
+use Rattle.table.specs.declared.Verdict.{Verdict}
+use Rattle.table.specs.declared.Verdict.the-variants.{Accepted, WrongHeader, WrongIpdu, WrongObject}
+use Rattle.table.specs.Check.{check}
+use Rattle.state.specs.Layout.{memorySize, stoppedAt}
+use Rattle.state.specs.Ranges.{inRange}
+use Rattle.layer.specs.declared.Answer.{Answer}
+use Rattle.layer.specs.declared.Answer.the-variants.{Done, WrongId, WrongLength, Limit, NoMessage, WrongTable, WrongMemory, Stopped, NotRequested}
+use Rattle.layer.specs.declared.Admission.{Admission}
+use Rattle.layer.specs.declared.Admission.the-variants.{Admitted, Refused}
+
+-- the paper's number of an answer
+abbrev pub numberOf : Answer → ℕ
+numberOf (Done value) = 0
+numberOf WrongId = 1
+numberOf WrongLength = 2
+numberOf (Limit value) = 3
+numberOf NoMessage = 4
+numberOf WrongTable = 5
+numberOf WrongMemory = 6
+numberOf Stopped = 7
+numberOf NotRequested = 8
+
+-- what is returned with it
+abbrev pub valueOf : Answer → ℕ
+valueOf (Done value) = value
+valueOf WrongId = 0
+valueOf WrongLength = 0
+valueOf (Limit value) = value
+valueOf NoMessage = 0
+valueOf WrongTable = 0
+valueOf WrongMemory = 0
+valueOf Stopped = 0
+valueOf NotRequested = 0
+
+-- what a call gives: its answer, working memory, and the request area, [] for a call that is lent none
+pub record Outcome : Type 0 where
+  pub answer : Answer
+  pub memory : List ℕ
+  pub area : List ℕ
+
+abbrev pub outcome : Answer → List ℕ → List ℕ → Outcome
+outcome a m area = record { answer = a; memory = m; area = area }
+
+-- ---- the order of refusals: 5 for the table, 6 for memory and area, 7 for a stopped layer; what a call refuses itself comes after
+
+abbrev pub admissionOf : Verdict → List ℕ → List ℕ → Bool → Admission
+admissionOf (Accepted c) t m fits =
+    pick (leb memorySize (length m) && fits)
+    (pick (inRange t c m) (pick (eqb (stoppedAt m) 1) (Refused Stopped) (Admitted c)) (Refused WrongMemory))
+    (Refused WrongMemory)
+admissionOf WrongHeader t m fits = Refused WrongTable
+admissionOf (WrongIpdu k) t m fits = Refused WrongTable
+admissionOf (WrongObject i) t m fits = Refused WrongTable
+
+-- whether a call over this table and memory goes on; `fits` is whether the request area is long enough
+unfoldable pub admission : List ℕ → List ℕ → Bool → Admission
+admission t m fits = admissionOf (check t) t m fits
+
+-- a refused call leaves all lent bytes
+abbrev pub follow : Admission → List ℕ → List ℕ → (Counts → Outcome) → Outcome
+follow (Admitted c) m area call = call c
+follow (Refused a) m area call = outcome a m area

@@ -1,0 +1,4 @@
+pub mod Answers
+pub mod Start
+pub mod Calls
+pub mod Step

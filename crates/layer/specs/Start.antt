@@ -1,0 +1,83 @@
+-- Document 01, "Calls": what a start writes. Assumes nothing.
+use mathlib.Core.List.{List, []}
+use Prim.Native.Nat.{ℕ}
+use lib.Dec.{leb, eqb}
+use lib.ListN.{length, replicate}
+use Rattle.memory.specs.Bytes.{replaced}
+use Rattle.memory.specs.Search.{pick, fold}
+use Rattle.table.specs.declared.Counts.{Counts}
+use Rattle.table.specs.declared.Direction.{Direction}
+use Rattle.table.specs.declared.Direction.the-variants.{Send, Receive}
+use Rattle.table.specs.declared.Ipdu.{Ipdu}
+use Rattle.table.specs.declared.Object.{Object}
+use Rattle.table.specs.declared.Verdict.{Verdict}
+use Rattle.table.specs.declared.Verdict.the-variants.{Accepted, WrongHeader, WrongIpdu, WrongObject}
+use Rattle.table.specs.Check.{check, depths}
+use Rattle.state.specs.declared.IpduState.{IpduState}
+use Rattle.state.specs.declared.ObjectState.{ObjectState}
+use Rattle.state.specs.Layout.{memorySize, withIpduState, withObjectState}
+use Rattle.message.specs.Objects.{object, pack}
+use Rattle.transmission.specs.Requests.{ipdu}
+use Rattle.layer.specs.declared.Answer.the-variants.{Done, WrongTable, WrongMemory}
+use Rattle.layer.specs.Answers.{Outcome, outcome}
+
+-- bytes that the list of stored numbers does not name are 0
+unfoldable pub blank : List ℕ
+blank = replicate memorySize 0
+
+-- no request open or wanted, delays 0, periodic off
+abbrev pub idle : ℕ → IpduState
+idle timer =
+    record {
+      requested = 0;
+      wanted = 0;
+      running = 0;
+      delay = 0;
+      deadline = 0;
+      countdown = 0;
+      timer = timer;
+    }
+
+-- receive timers at F, else R
+abbrev pub firstTimer : Direction → Ipdu → ℕ
+firstTimer Send p = 0
+firstTimer Receive p = pick (eqb (p .«first_deadline») 0) (p .deadline) (p .«first_deadline»)
+
+abbrev pub startIpdu : List ℕ → ℕ → List ℕ → List ℕ
+startIpdu t k m = withIpduState m k (idle (firstTimer (ipdu t k .direction) (ipdu t k)))
+
+-- queues empty, overflow and marks clear, occurrences 0
+abbrev pub unused : ℕ → ℕ → ℕ → ObjectState
+unused value old queue =
+    record {
+      value = value;
+      old = old;
+      occurrence = 0;
+      marks = 0;
+      overflow = 0;
+      head = 0;
+      count = 0;
+      queue = queue;
+    }
+
+-- initial values packed, or stored in receive objects; old values initial
+abbrev pub startAs : Direction → Object → ℕ → ℕ → List ℕ → List ℕ
+startAs Send o i queue m = withObjectState (pack o (o .initial) m) i (unused 0 (o .initial) queue)
+startAs Receive o i queue m = withObjectState m i (unused (o .initial) (o .initial) queue)
+
+abbrev pub startObject : List ℕ → Counts → ℕ → List ℕ → List ℕ
+startObject t c i m = startAs (object t c i .direction) (object t c i) i (depths t c i) m
+
+-- working memory after a start, a function of the table alone
+unfoldable pub started : List ℕ → Counts → List ℕ
+started t c = fold (c .objects) (startObject t c) (fold (c .ipdus) (startIpdu t) blank)
+
+-- start looks at the table and at the length of memory alone, and writes the first 8,192 bytes
+abbrev pub startOf : Verdict → List ℕ → List ℕ → Outcome
+startOf (Accepted c) t m = pick (leb memorySize (length m)) (outcome (Done 0) (replaced 0 (started t c) m) []) (outcome WrongMemory m [])
+startOf WrongHeader t m = outcome WrongTable m []
+startOf (WrongIpdu k) t m = outcome WrongTable m []
+startOf (WrongObject i) t m = outcome WrongTable m []
+
+unfoldable pub startCall : List ℕ → List ℕ → Outcome
+startCall t m = startOf (check t) t m

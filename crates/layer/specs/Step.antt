@@ -1,0 +1,49 @@
+-- The calls of document 01 as data, what one does (`step`), and what a list of them does (`run`).
+-- Assumes nothing.
+use mathlib.Core.Bool.{Bool, true, false}
+use mathlib.Core.List.{List, [], _∷_}
+use Prim.Native.Nat.{ℕ}
+use lib.Dec.{leb}
+use lib.ListN.{length}
+use Rattle.layer.specs.Answers.{Outcome, outcome, admission, follow}
+use Rattle.layer.specs.Start.{startCall}
+use Rattle.layer.specs.Calls.{stopIn, sendIn, initialiseIn, receiveIn, statusIn, marksIn, clearMarksIn, periodicIn, indicationIn, confirmIn}
+
+-- a call with its arguments: i is an object's number, k an I-PDU's. A send is lent a request area.
+pub data Call : Type 0 where
+  start : Call
+  stop : Call
+  send : (i value : ℕ) (area : List ℕ) → Call
+  initialise : (i value : ℕ) → Call
+  receive : (i : ℕ) → Call
+  status : (i : ℕ) → Call
+  marks : (i : ℕ) → Call
+  clearMarks : (i : ℕ) → Call
+  startPeriodic : Call
+  stopPeriodic : Call
+  indication : (k : ℕ) (good : Bool) (bytes : List ℕ) → Call
+  confirm : (k : ℕ) (good : Bool) → Call
+
+-- the bytes of a request area that are used
+abbrev pub areaSize : ℕ
+areaSize = 256
+
+-- what a call over this table and working memory does
+unfoldable pub step : List ℕ → Call → List ℕ → Outcome
+step t start m = startCall t m
+step t stop m = follow (admission t m true) m [] (λ c. stopIn m)
+step t (send i value area) m = follow (admission t m (leb areaSize (length area))) m area (λ c. sendIn t c i value area m)
+step t (initialise i value) m = follow (admission t m true) m [] (λ c. initialiseIn t c i value m)
+step t (receive i) m = follow (admission t m true) m [] (λ c. receiveIn t c i m)
+step t (status i) m = follow (admission t m true) m [] (λ c. statusIn t c i m)
+step t (marks i) m = follow (admission t m true) m [] (λ c. marksIn c i m)
+step t (clearMarks i) m = follow (admission t m true) m [] (λ c. clearMarksIn c i m)
+step t startPeriodic m = follow (admission t m true) m [] (λ c. periodicIn true t c m)
+step t stopPeriodic m = follow (admission t m true) m [] (λ c. periodicIn false t c m)
+step t (indication k good bytes) m = follow (admission t m true) m [] (λ c. indicationIn t c k good bytes m)
+step t (confirm k good) m = follow (admission t m true) m [] (λ c. confirmIn t c k good m)
+
+-- what a list of calls over one table gives, each on the working memory that the one before left
+abbrev pub run : List ℕ → List Call → List ℕ → List Outcome
+run t [] m = []
+run t (call ∷ calls) m = step t call m ∷ run t calls (step t call m .memory)
