@@ -12,7 +12,6 @@ ghost use mathlib.Core.List.{[]};
 ghost use mathlib.Core.Path.{_≡_};
 ghost use Prim.Native.Nat.{_+_, _≤_, _<_};
 ghost use lib.ListN.{length};
-ghost use Rattle.memory.specs.Bytes.{replaced};
 ghost use Rattle.memory.specs.Search.{pick};
 ghost use Rattle.state.specs.Ranges.{Ready};
 ghost use Rattle.layer.specs.Answers.{outcome};
@@ -44,23 +43,10 @@ fn good_indication(t: &[u8], c: Counts, m: &mut [u8], number: IpduNumber, bytes:
         return Answer::WrongLength;
     }
     let at = SLOTS + 8 * (number.0 as usize);
-    copy(m, at, bytes);
+    memory::copy(m, at, bytes);
     message::deliver_frame(t, c, m, number);
     transmission::set_timer(m, number, p);
     Answer::Done(0)
-}
-
-// Copies bytes into memory from byte `at` on.
-fn copy(m: &mut [u8], at: usize, bytes: &[u8])
-    requires { ⌜ at + length (now bytes) ≤ length (now m) ⌝ }
-    ensures { λ _. ⌜ now (m .exit) ≡ replaced at (now (bytes .entry)) (now (m .entry)) ⌝ }
-{
-    let n = bytes.len();
-    let mut i = 0;
-    while i < n {
-        m[at + i] = bytes[i];
-        i += 1;
-    }
 }
 
 // Closes the open request of a send I-PDU.

@@ -4,9 +4,9 @@
 mod calls;
 mod checks;
 mod frames;
-mod receive;
-mod send;
-mod start;
+mod objects;
+mod sending;
+mod starting;
 
 pub use checks::admit;
 pub use checks::number_of;
@@ -24,13 +24,13 @@ pub use calls::stop;
 pub use calls::stop_periodic;
 pub use frames::confirm_checked;
 pub use frames::indication_checked;
-pub use receive::clear_marks_checked;
-pub use receive::initialise_checked;
-pub use receive::marks_checked;
-pub use receive::receive_checked;
-pub use receive::status_checked;
-pub use send::send_checked;
-pub use start::start;
+pub use objects::clear_marks_checked;
+pub use objects::initialise_checked;
+pub use objects::marks_checked;
+pub use objects::receive_checked;
+pub use objects::status_checked;
+pub use sending::send_checked;
+pub use starting::start;
 
 // What a call answers: done, with its result, or why not.
 pub enum Answer {

@@ -7,7 +7,7 @@ use Prim.Native.Nat.{ℕ, zero, suc, _+_, _-_, _*_, _/_, _%_, _^_, _≤_, _<_, m
 use native.Mathlib.Nat.{zero-mod, mod-lt, one-le-pow, zero-lt-suc, pow-succ', mul-comm, le-of-suc-le-suc}
 use native.Mathlib.Numerals.{add-one}
 use native.Mathlib.Omega.{arith}
-use lib.ListN.{drop-of-length-le, replicate, length, getD, take, drop, length-take, length-drop, length-append, List·getD-append, List·getD-eq-default}
+use lib.ListN.{drop-of-length-le, replicate, length, getD, set, take, drop, length-take, length-drop, length-append, List·getD-append, List·getD-eq-default}
 use lib.Arith.{mod-mul}
 use lib.Pow.{pow-add}
 use lib.Seq.{ext-getD, sets, sets-eq, take-nil, take-all, take-at, drop-at, length-take-le, getD-take, getD-drop, getD-append-add}
@@ -76,6 +76,13 @@ replaced-length at f m h = simp (length-append, length-take, length-drop) (omega
 pub sets-replaced : (at : ℕ) (f m : List ℕ) → at + length f ≤ length m → sets m at f ≡ replaced at f m
 unfolding replaced
 sets-replaced at f m h = sets-eq f m at h ∙ append-assoc (take at m) f (drop (at + length f) m)
+
+-- one store more
+pub sets-snoc : (f m : List ℕ) (at b : ℕ) → sets m at (f ++ (b ∷ [])) ≡ set (sets m at f) (at + length f) b
+sets-snoc [] m at b = let e : at + length {A = ℕ} [] ≡ at = omega arith in rw e
+sets-snoc (x ∷ f) m at b =
+    let e : at + length (x ∷ f) ≡ suc at + length f = omega arith in
+    rw e (sets-snoc f (set m at x) (suc at) b)
 
 -- what was put there is there
 pub part-replaced : (at : ℕ) (f m : List ℕ) → at + length f ≤ length m → part at (length f) (replaced at f m) ≡ f

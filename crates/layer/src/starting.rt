@@ -14,7 +14,7 @@ ghost use mathlib.Core.List.{[]};
 ghost use mathlib.Core.Path.{_≡_};
 ghost use Prim.Native.Nat.{_+_, _≤_, _<_};
 ghost use lib.Dec.{eqb};
-ghost use lib.ListN.{length, replicate};
+ghost use lib.ListN.{length};
 ghost use Rattle.memory.specs.Search.{pick, fold};
 ghost use Rattle.table.specs.declared.Verdict.the-variants.{Accepted};
 ghost use Rattle.table.specs.Check.{Shape, depths};
@@ -55,21 +55,9 @@ fn write_all(t: &[u8], c: Counts, m: &mut [u8])
     requires { ⌜ length (now m) ≡ memorySize ⌝ }
     ensures { λ _. ⌜ now (m .exit) ≡ started (now (t .entry)) c ⌝ }
 {
-    clear(m);
+    memory::clear(m);
     start_ipdus(t, c, m);
     start_objects(t, c, m);
-}
-
-// Sets each byte to 0.
-fn clear(m: &mut [u8])
-    ensures { λ _. ⌜ now (m .exit) ≡ replicate (length (now (m .entry))) 0 ⌝ }
-{
-    let n = m.len();
-    let mut i = 0;
-    while i < n {
-        m[i] = 0;
-        i += 1;
-    }
 }
 
 fn start_ipdus(t: &[u8], c: Counts, m: &mut [u8])

@@ -1,0 +1,97 @@
+-- What an admitted call may rely on: the table right, memory in range, area long enough; numbers that were checked exist.
+-- Assumes nothing.
+use mathlib.Core.Bool.{Bool, true, false, _&&_}
+use mathlib.Core.List.{List}
+use mathlib.Core.Logic.{⊎-elim}
+use mathlib.Core.Path.{_≡_, refl, sym, ap, _∙_}
+use Prim.Native.Nat.{ℕ, _+_, _*_, _≤_, _<_}
+use native.Mathlib.Omega.{arith}
+use borrow.Author.Tests.{leb-true, ltb-true, eqb-true}
+use lib.Dec.{leb, ltb, eqb}
+use lib.ListN.{length}
+use Rattle.memory.specs.Bytes.{Bytes}
+use Rattle.memory.specs.Search.{pick}
+use Rattle.memory.proofs.Tests.{and-split, true-or-false}
+use Rattle.table.specs.declared.Counts.{Counts}
+use Rattle.table.specs.declared.Verdict.{Verdict}
+use Rattle.table.specs.declared.Verdict.the-variants.{Accepted, WrongHeader, WrongIpdu, WrongObject}
+use Rattle.table.specs.Records.{none, ipduRecord, objectRecord}
+use Rattle.table.specs.Check.{check}
+use Rattle.table.specs.Decode.{ipduOf, objectOf}
+use Rattle.table.proofs.Accepted.{accepted-right, Usable, usable}
+use Rattle.table.proofs.Facts.{IpduFacts, ipdu-facts}
+use Rattle.state.specs.Layout.{memorySize, stoppedAt}
+use Rattle.state.specs.Ranges.{inRange, Ready}
+use Rattle.state.proofs.Ready.{in-range-ready}
+use Rattle.message.specs.Objects.{object}
+use Rattle.layer.specs.declared.Admission.{Admission}
+use Rattle.layer.specs.declared.Admission.the-variants.{Admitted, Refused}
+use Rattle.layer.specs.declared.Answer.{Answer}
+use Rattle.layer.specs.declared.Answer.the-variants.{WrongTable, WrongMemory, Stopped}
+use Rattle.layer.specs.Answers.{admissionOf, admission}
+use Rattle.layer.specs.Calls.{HasIpdu, isObject, isIpdu}
+
+-- ---- admitted
+
+pub record Open (t : List ℕ) (c : Counts) (m : List ℕ) (fits : Bool) : Type 0 where
+  pub ready : Ready t c m
+  pub area : fits ≡ true
+
+refused-not : {c : Counts} (a : Answer) → Refused a ≡ Admitted c → ⊥
+refused-not a e = let z : _≡_ {A = ℕ} 0 1 = cc in omega arith
+
+module _ (t m : List ℕ) (fits : Bool) (bt : Bytes t) (bm : Bytes m) (c : Counts) where
+  opened : (v : Verdict) → check t ≡ v → admissionOf v t m fits ≡ Admitted c → Open t c m fits
+  opened WrongHeader h e = absurd (refused-not WrongTable e)
+  opened (WrongIpdu k) h e = absurd (refused-not WrongTable e)
+  opened (WrongObject i) h e = absurd (refused-not WrongTable e)
+  opened (Accepted d) h e =
+      ⊎-elim
+      (λ (long : (leb memorySize (length m) && fits) ≡ true).
+      ⊎-elim
+      (λ (low : inRange t d m ≡ true).
+      ⊎-elim
+      (λ (off : eqb (stoppedAt m) 1 ≡ true). absurd (refused-not Stopped (rw (long, low, off) at e)))
+      (λ (on : eqb (stoppedAt m) 1 ≡ false). there (and-split (leb memorySize (length m)) fits long) low (rw (long, low, on) at e))
+      (true-or-false (eqb (stoppedAt m) 1)))
+      (λ (high : inRange t d m ≡ false). absurd (refused-not WrongMemory (rw (long, high) at e)))
+      (true-or-false (inRange t d m)))
+      (λ (short : (leb memorySize (length m) && fits) ≡ false). absurd (refused-not WrongMemory (rw short at e)))
+      (true-or-false (leb memorySize (length m) && fits))
+    where
+      there : (leb memorySize (length m) ≡ true) × (fits ≡ true) → inRange t d m ≡ true → Admitted d ≡ Admitted c → Open t c m fits
+      there both low same =
+          let eq : d ≡ c = cc in
+          rw (← eq)
+          record {
+            ready = in-range-ready t d m (accepted-right t d h) bt (leb-true memorySize (length m) (both .0)) bm low;
+            area = both .1;
+          }
+
+  pub admission-open : admission t m fits ≡ Admitted c → Open t c m fits
+  unfolding admission
+  admission-open e = opened (check t) refl e
+
+-- ---- numbers that exist
+
+pub object-there : (t : List ℕ) (c : Counts) (kind i : ℕ) → isObject t c kind i ≡ true → i < c .objects
+object-there t c kind i e = ltb-true i (c .objects) (and-split (ltb i (c .objects)) (eqb (objectRecord t (c .ipdus) i .kind) kind) e .0)
+
+pub ipdu-there : (t : List ℕ) (c : Counts) (direction k : ℕ) → isIpdu t c direction k ≡ true → k < c .ipdus
+ipdu-there t c direction k e = ltb-true k (c .ipdus) (and-split (ltb k (c .ipdus)) (eqb (ipduRecord t k .direction) direction) e .0)
+
+-- an I-PDU has at most 8 bytes
+pub ipdu-short : (t : List ℕ) (c : Counts) (m : List ℕ) → Ready t c m → (k : ℕ) → k < c .ipdus → ipduRecord t k .length ≤ 8
+ipdu-short t c m ready k h = ipdu-facts (ipduRecord t k) (ready .right .ipdus k h) .most
+
+pub has-ipdu : (t : List ℕ) (c : Counts) (m : List ℕ) → Ready t c m → (i : ℕ) → i < c .objects → HasIpdu t (object t c i)
+unfolding objectOf ipduOf
+has-ipdu t c m ready i h =
+    record {
+      number = λ e. omega (arith, low e, ready .right .shape .ipdus);
+      inside = λ e. omega (arith, low e, ready .right .shape .long);
+      few = λ e. ipdu-short t c m ready (objectRecord t (c .ipdus) i .ipdu) (low e);
+    }
+  where
+    low : eqb (objectRecord t (c .ipdus) i .ipdu) none ≡ false → objectRecord t (c .ipdus) i .ipdu < c .ipdus
+    low e = usable t c (ready .right) i h .ipdu e .0

@@ -1,0 +1,17 @@
+-- `layer::checks::is_ipdu` meets its contract.
+-- Assumes nothing.
+use borrow.Author.Needs.{needs}
+use borrow.Author.Tests.{leb-true, lt-ltb, le-ltb, ltb-true, eq-eqb, ne-eqb, not-true, not-false}
+use Rattle.layer.proofs.checks.is_ipdu.Statement.{statement}
+use Rattle.layer.proofs.checks.is_ipdu.Tie as tie
+use Rattle.table.proofs.ipdu_record.Reads as ipdu-record-reads
+
+returns : tie.Need-returns
+returns c = rw (le-ltb _ _ (c .if1 .taken))
+ipdu-record-requires : tie.Need-ipdu-record-requires
+ipdu-record-requires c κs = search needs
+
+returns-2 : tie.Need-returns-2
+returns-2 c = rw (lt-ltb _ _ (c .before .before .if1 .left), c .before .ipdu-record .ensures)
+pub is-ipdu-spec : {M : Type 1} → statement M
+is-ipdu-spec = tie.close (tie.spec returns ipdu-record-requires returns-2)

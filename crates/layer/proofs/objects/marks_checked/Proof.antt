@@ -1,0 +1,22 @@
+-- `layer::objects::marks_checked` meets its contract.
+-- Assumes nothing.
+use borrow.Author.Needs.{needs}
+use mathlib.Core.Path.{_≡_, refl, sym, ap, _∙_}
+use native.Mathlib.Omega.{arith}
+use borrow.Author.Tests.{leb-true, lt-ltb, le-ltb, ltb-true, eq-eqb, ne-eqb, not-true, not-false}
+use Rattle.layer.specs.Calls.{marksIn}
+use Rattle.layer.proofs.objects.marks_checked.Statement.{statement}
+use Rattle.layer.proofs.objects.marks_checked.Tie as tie
+use Rattle.state.proofs.object_state.Reads as object-state-reads
+
+returns : tie.Need-returns
+unfolding marksIn
+returns c = rw (le-ltb _ _ (c .if1 .taken))
+object-state-requires : tie.Need-object-state-requires
+object-state-requires c κs = search needs
+
+returns-2 : tie.Need-returns-2
+unfolding marksIn
+returns-2 c = rw (lt-ltb _ _ (c .before .if1 .left), c .object-state .ensures)
+pub marks-checked-spec : {M : Type 1} → statement M
+marks-checked-spec = tie.close (tie.spec returns object-state-requires returns-2)

@@ -1,0 +1,17 @@
+-- `layer::objects::status_of` meets its contract.
+-- Assumes nothing.
+use borrow.Author.Needs.{needs}
+use borrow.Author.Tests.{leb-true, lt-ltb, le-ltb, ltb-true, eq-eqb, ne-eqb, not-true, not-false}
+use Rattle.layer.proofs.objects.status_of.Statement.{statement}
+use Rattle.layer.proofs.objects.status_of.Tie as tie
+use Rattle.layer.proofs.objects.limited.Reads as limited-reads
+
+returns : tie.Need-returns
+returns c = rw (eq-eqb _ _ (c .if1 .taken))
+limited-requires : tie.Need-limited-requires
+limited-requires c κs = search needs
+
+returns-2 : tie.Need-returns-2
+returns-2 c = rw (ne-eqb _ _ (c .before .if1 .left)) (c .limited .ensures)
+pub status-of-spec : {M : Type 1} → statement M
+status-of-spec = tie.close (tie.spec returns limited-requires returns-2)
