@@ -1,18 +1,19 @@
 -- What an admitted call may rely on: the table right, memory in range, area long enough; numbers that were checked exist.
 -- Assumes nothing.
-use mathlib.Core.Bool.{Bool, true, false, _&&_}
+use mathlib.Core.Bool.{Bool, true, false, not, _&&_}
 use mathlib.Core.List.{List}
 use mathlib.Core.Logic.{⊎-elim}
 use mathlib.Core.Path.{_≡_, refl, sym, ap, _∙_}
 use Prim.Native.Nat.{ℕ, _+_, _*_, _≤_, _<_}
 use native.Mathlib.Omega.{arith}
-use borrow.Author.Tests.{leb-true, ltb-true, eqb-true}
+use borrow.Author.Tests.{leb-true, ltb-true, not-true}
 use lib.Dec.{leb, ltb, eqb}
 use lib.ListN.{length}
 use Rattle.memory.specs.Bytes.{Bytes}
 use Rattle.memory.specs.Search.{pick}
 use Rattle.memory.proofs.Tests.{and-split, true-or-false}
 use Rattle.table.specs.declared.Counts.{Counts}
+use Rattle.table.specs.declared.Object.{Object}
 use Rattle.table.specs.declared.Verdict.{Verdict}
 use Rattle.table.specs.declared.Verdict.the-variants.{Accepted, WrongHeader, WrongIpdu, WrongObject}
 use Rattle.table.specs.Records.{none, ipduRecord, objectRecord}
@@ -20,16 +21,17 @@ use Rattle.table.specs.Check.{check}
 use Rattle.table.specs.Decode.{ipduOf, objectOf}
 use Rattle.table.proofs.Accepted.{accepted-right, Usable, usable}
 use Rattle.table.proofs.Facts.{IpduFacts, ipdu-facts}
-use Rattle.state.specs.Layout.{memorySize, stoppedAt}
+use Rattle.state.specs.Layout.{memorySize, stoppedAt, objectState, withObjectState}
 use Rattle.state.specs.Ranges.{inRange, Ready}
 use Rattle.state.proofs.Ready.{in-range-ready}
-use Rattle.message.specs.Objects.{object}
+use Rattle.message.specs.Objects.{object, lets, filtered, pack}
 use Rattle.layer.specs.declared.Admission.{Admission}
 use Rattle.layer.specs.declared.Admission.the-variants.{Admitted, Refused}
 use Rattle.layer.specs.declared.Answer.{Answer}
-use Rattle.layer.specs.declared.Answer.the-variants.{WrongTable, WrongMemory, Stopped}
-use Rattle.layer.specs.Answers.{admissionOf, admission}
-use Rattle.layer.specs.Calls.{HasIpdu, isObject, isIpdu}
+use Rattle.layer.specs.declared.Answer.the-variants.{Done, WrongTable, WrongMemory, Stopped}
+use Rattle.layer.specs.Answers.{Outcome, outcome, admissionOf, admission}
+use Rattle.transmission.specs.Requests.{ipdu}
+use Rattle.layer.specs.Calls.{HasIpdu, isObject, isIpdu, isTriggered, isPeriodic, wants, request, filterOf}
 
 -- ---- admitted
 
@@ -95,3 +97,29 @@ has-ipdu t c m ready i h =
   where
     low : eqb (objectRecord t (c .ipdus) i .ipdu) none ≡ false → objectRecord t (c .ipdus) i .ipdu < c .ipdus
     low e = usable t c (ready .right) i h .ipdu e .0
+
+-- only an object with an I-PDU wants a request
+pub wants-some : (t : List ℕ) (o : Object) → wants t o ≡ true → eqb (o .ipdu .0) none ≡ false
+unfolding wants
+wants-some t o e =
+    let first = and-split (not (eqb (o .ipdu .0) none) && isTriggered (o .transfer)) (not (isPeriodic (ipdu t (o .ipdu .0) .mode))) e .0 in
+    not-true _ (and-split (not (eqb (o .ipdu .0) none)) (isTriggered (o .transfer)) first .0)
+
+-- ---- send: what follows a filtering
+
+module _ (t : List ℕ) (o : Object) (i v : ℕ) (area m n : List ℕ) (passed : Bool) (judge : passed ≡ lets o v (objectState m i))
+    (row : n ≡ withObjectState m i (filtered passed v (objectState m i))) where
+  pub send-dropped : passed ≡ false → outcome (Done 0) n area ≡ filterOf t o i v area m
+  send-dropped e = rw (← judge, row, e)
+
+  pub send-passed : (x : Outcome) → passed ≡ true → x ≡ request t o area (pack o v n) → x ≡ filterOf t o i v area m
+  send-passed x e f =
+      rw (← judge)
+      (f ∙ ap (λ (k : List ℕ). request t o area (pack o v k)) row ∙ sym (ap (λ (b : Bool). pick b (request t o area (pack o v after)) (outcome (Done 0) after area)) e))
+    where
+      after : List ℕ
+      after = withObjectState m i (filtered passed v (objectState m i))
+
+-- an outcome part by part
+pub outcomes : (a b : Answer) (m n area other : List ℕ) → a ≡ b → m ≡ n → area ≡ other → outcome a m area ≡ outcome b n other
+outcomes a b m n area other e f g = rw (e, f, g)

@@ -18,7 +18,14 @@ ghost use Rattle.layer.specs.Answers.{outcome};
 ghost use Rattle.layer.specs.Calls.{indicationOf, indicationIn, confirmOf, confirmIn};
 
 // Takes over the bytes of a receive I-PDU, or notes that they were not received.
-pub fn indication_checked(t: &[u8], c: Counts, m: &mut [u8], number: IpduNumber, good: bool, bytes: &[u8]) -> Answer
+pub fn indication_checked(
+    t: &[u8],
+    c: Counts,
+    m: &mut [u8],
+    number: IpduNumber,
+    good: bool,
+    bytes: &[u8],
+) -> Answer
     requires { ⌜ Ready (now t) c (now m) ⌝ }
     ensures { λ r. ⌜ outcome r (now (m .exit)) [] ≡ indicationIn (now (t .entry)) c (number .0) good (now (bytes .entry)) (now (m .entry)) ⌝ }
 {

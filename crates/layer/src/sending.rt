@@ -18,7 +18,14 @@ ghost use Rattle.layer.specs.Calls.{HasIpdu, isTriggered, isPeriodic, wa
 ghost use Rattle.layer.specs.Step.{areaSize};
 
 // Sends a value of a message object, and answers the word of the I-PDU that was requested.
-pub fn send_checked(t: &[u8], c: Counts, m: &mut [u8], area: &mut [u8], number: ObjectNumber, v: u32) -> Answer
+pub fn send_checked(
+    t: &[u8],
+    c: Counts,
+    m: &mut [u8],
+    area: &mut [u8],
+    number: ObjectNumber,
+    v: u32,
+) -> Answer
     requires { ⌜ Ready (now t) c (now m) ⌝ }
     requires { ⌜ areaSize ≤ length (now area) ⌝ }
     ensures { λ r. ⌜ outcome r (now (m .exit)) (now (area .exit)) ≡ sendIn (now (t .entry)) c (number .0) v (now (area .entry)) (now (m .entry)) ⌝ }

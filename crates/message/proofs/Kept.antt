@@ -13,7 +13,7 @@ use lib.Dec.{ltb, eqb}
 use lib.ListN.{length}
 use Rattle.memory.specs.Bytes.{bytesOf, part, replaced}
 use Rattle.memory.specs.Search.{pick, fold}
-use Rattle.memory.proofs.Laws.{bytesOf-length, bytesOf-bytes, part-length}
+use Rattle.memory.proofs.Laws.{bytesOf-length, bytesOf-bytes, part-length, replaced-length}
 use Rattle.memory.proofs.Search.{fold-keeps}
 use Rattle.memory.proofs.Tests.{true-or-false, lt-or-le}
 use Rattle.bits.specs.Bits.{packed, unpacked}
@@ -23,13 +23,13 @@ use Rattle.table.specs.declared.Counts.{Counts}
 use Rattle.table.specs.declared.Object.{Object}
 use Rattle.table.specs.Records.{none, objectRecord}
 use Rattle.table.specs.Check.{depths}
-use Rattle.table.specs.Decode.{objectOf}
+use Rattle.table.specs.Decode.{objectOf, Right}
 use Rattle.table.proofs.Accepted.{Usable, usable}
 use Rattle.state.specs.declared.ObjectState.{ObjectState}
-use Rattle.state.specs.Layout.{slotAt, objectState, withObjectState}
+use Rattle.state.specs.Layout.{memorySize, slotAt, objectState, withObjectState}
 use Rattle.state.specs.Ranges.{Ready}
 use Rattle.state.proofs.Ready.{ObjectKept, InQueues, in-queues, ready-kept, ready-object, ready-bytes}
-use Rattle.message.specs.Objects.{object, Held, Placed, arrived, marked, lets, filtered, around, placeAt, stored, delivered, enters, delivery, deliver, unpack}
+use Rattle.message.specs.Objects.{object, Held, Placed, arrived, marked, lets, filtered, around, placeAt, stored, delivered, enters, delivery, deliver, startBit, pack, unpack}
 use Rattle.message.specs.Delivery.{insideTurn, deliverInside, frameTurn, deliverFrame, markTurn, markObjects}
 use Rattle.message.proofs.Laws.{QueueRoom, queue-room}
 
@@ -125,6 +125,38 @@ module _ (depth first : ℕ) where
   kept-delivered true v s h k = kept-stored v (filtered true v s) h (kept-filtered true v s h k)
   kept-delivered false v s h k = kept-filtered false v s h k
 
+-- ---- packing keeps the length
+
+pub right-placed : (t : List ℕ) (c : Counts) (m : List ℕ) → Right t c → memorySize ≤ length m → (i : ℕ) → i < c .objects → Placed (object t c i) m
+unfolding objectOf
+right-placed t c m right long i h =
+    record {
+      long = long;
+      slot = usable t c right i h .slot;
+      ipdu = λ e. omega (arith, usable t c right i h .ipdu e .0, right .shape .ipdus);
+    }
+
+module _ (o : Object) (v : ℕ) (m : List ℕ) (placed : Placed o m) where
+  pack-room : eqb (o .ipdu .0) none ≡ false → slotAt (o .ipdu .0) + 8 ≤ length m
+  pack-room some = omega (arith, placed .ipdu some, placed .long)
+
+  packed-slot-length : eqb (o .ipdu .0) none ≡ false
+      → length (packed (o .order) (startBit o) (o .size .0) v (part (slotAt (o .ipdu .0)) 8 m)) ≡ 8
+  packed-slot-length some =
+      packed-length (o .order) (startBit o) (o .size .0) v (part (slotAt (o .ipdu .0)) 8 m)
+      ∙ part-length (slotAt (o .ipdu .0)) 8 m (pack-room some)
+
+  pub pack-length : length (pack o v m) ≡ length m
+  unfolding pack
+  pack-length =
+      ⊎-elim
+      (λ (e : eqb (o .ipdu .0) none ≡ true). rw e)
+      (λ (e : eqb (o .ipdu .0) none ≡ false).
+      rw e
+      (replaced-length (slotAt (o .ipdu .0)) (packed (o .order) (startBit o) (o .size .0) v (part (slotAt (o .ipdu .0)) 8 m)) m
+      (omega (arith, packed-slot-length e, pack-room e))))
+      (true-or-false (eqb (o .ipdu .0) none))
+
 -- ---- what a working memory in range gives
 
 module _ (t : List ℕ) (c : Counts) (m : List ℕ) (ready : Ready t c m) (i : ℕ) (h : i < c .objects) where
@@ -147,13 +179,25 @@ module _ (t : List ℕ) (c : Counts) (m : List ℕ) (ready : Ready t c m) (i : �
   ready-period = usable t c (ready .right) i h .filter
 
   pub ready-placed : Placed (object t c i) m
-  unfolding objectOf
-  ready-placed =
-      record {
-        long = ready .long;
-        slot = usable t c (ready .right) i h .slot;
-        ipdu = λ e. omega (arith, usable t c (ready .right) i h .ipdu e .0, ready .right .shape .ipdus);
-      }
+  ready-placed = right-placed t c m (ready .right) (ready .long) i h
+
+  -- packing keeps the ranges
+  pub ready-pack : (v : ℕ) → Ready t c (pack (object t c i) v m)
+  unfolding pack
+  ready-pack v =
+      ⊎-elim
+      (λ (e : eqb (o .ipdu .0) none ≡ true). rw e ready)
+      (λ (e : eqb (o .ipdu .0) none ≡ false).
+      let low = ready-placed .ipdu e in
+      let size = packed-slot-length o v m ready-placed e in
+      rw e
+      (ready-bytes t c m ready (slotAt (o .ipdu .0)) (packed (o .order) (startBit o) (o .size .0) v (part (slotAt (o .ipdu .0)) 8 m))
+      (packed-bytes (o .order) (startBit o) (o .size .0) v (part (slotAt (o .ipdu .0)) 8 m))
+      (omega (arith, size, pack-room o v m ready-placed e)) (inl (omega arith, omega (arith, size, low)))))
+      (true-or-false (eqb (o .ipdu .0) none))
+    where
+      o : Object
+      o = object t c i
 
   -- delivery keeps the ranges
   pub ready-deliver : (v : ℕ) → v < 2 ^ 32 → Ready t c (deliver (object t c i) i v m)
@@ -199,7 +243,7 @@ unfolding unpack
 unpack-lt t c m ready i h =
     let o = object t c i in
     let low = ready-placed t c m ready i h .slot .most in
-    lt-of-lt-of-le (unpacked-lt (o .order) (Rattle.message.specs.Objects.startBit o) (o .size .0) (part (slotAt (o .ipdu .0)) 8 m))
+    lt-of-lt-of-le (unpacked-lt (o .order) (startBit o) (o .size .0) (part (slotAt (o .ipdu .0)) 8 m))
     (native.Mathlib.Nat.pow-le-pow-right (zero-lt-suc 1) low)
 
 module _ (t : List ℕ) (c : Counts) where

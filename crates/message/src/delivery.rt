@@ -4,6 +4,9 @@ use table::IpduNumber;
 use table::ObjectNumber;
 ghost use mathlib.Core.Path.{_≡_};
 ghost use Prim.Native.Nat.{_≤_, _<_};
+ghost use lib.ListN.{length};
+ghost use Rattle.table.specs.Check.{Shape};
+ghost use Rattle.state.specs.Layout.{memorySize};
 ghost use Rattle.state.specs.Ranges.{Ready};
 ghost use Rattle.message.specs.Delivery.{insideTurn, deliverInside, frameTurn, deliverFrame, markTurn, markObjects};
 
@@ -72,8 +75,8 @@ fn frame_turn(t: &[u8], c: Counts, m: &mut [u8], ipdu: IpduNumber, number: Objec
 
 // Marks each object of an I-PDU.
 pub fn mark_objects(t: &[u8], c: Counts, m: &mut [u8], ipdu: IpduNumber, mark: u32)
-    requires { ⌜ Ready (now t) c (now m) ⌝ }
-    requires { ⌜ mark ≤ 15 ⌝ }
+    requires { ⌜ Shape (now t) c ⌝ }
+    requires { ⌜ memorySize ≤ length (now m) ⌝ }
     ensures { λ _. ⌜ now (m .exit) ≡ markObjects (now (t .entry)) c (ipdu .0) mark (now (m .entry)) ⌝ }
 {
     let n = c.objects;
@@ -86,8 +89,8 @@ pub fn mark_objects(t: &[u8], c: Counts, m: &mut [u8], ipdu: IpduNumber, mark: u
 
 // Marks one object, where that is in the I-PDU.
 fn mark_turn(t: &[u8], c: Counts, m: &mut [u8], ipdu: IpduNumber, mark: u32, number: ObjectNumber)
-    requires { ⌜ Ready (now t) c (now m) ⌝ }
-    requires { ⌜ number .0 < c .objects ⌝ }
+    requires { ⌜ Shape (now t) c ⌝ }
+    requires { ⌜ (memorySize ≤ length (now m)) × (number .0 < c .objects) ⌝ }
     ensures { λ _. ⌜ now (m .exit) ≡ markTurn (now (t .entry)) c (ipdu .0) mark (number .0) (now (m .entry)) ⌝ }
 {
     let r = table::object_record(t, c.ipdus, number);

@@ -21,30 +21,38 @@ more m i h below j low =
 
 abbrev Inv-loop : tie.InvT-loop
 Inv-loop m₀ n i₀ m i = (i ≤ n) × ((j : ℕ) → j < i → getD m j 0 ≡ 0) × (length m ≡ length m₀)
+
 abbrev μ-loop : tie.MeasureT-loop
 μ-loop m₀ n i₀ m i = n - i
+
 loop-holds : tie.Need-loop-holds Inv-loop μ-loop
 loop-holds c = (search needs, (λ j h. absurd (omega arith)), refl)
+
 slice-write-m : tie.Need-slice-write-m Inv-loop μ-loop
 slice-write-m c = omega (arith, c .loop-test .taken, c .before .loop .inv .2)
+
 add-i : tie.Need-add-i Inv-loop μ-loop
 add-i c = omega (arith, c .loop-test .taken, c .before .before .good .0 .0)
+
 loop-less : tie.Need-loop-less Inv-loop μ-loop
 loop-less c = omega (arith, c .loop-test .taken)
+
 loop-again : tie.Need-loop-again Inv-loop μ-loop
-loop-again c =
-    (
-      omega (arith, c .loop-test .taken),
-      more (c .before .loop .m) (c .before .loop .i) (omega (arith, c .loop-test .taken, c .before .loop .inv .2)) (c .before .loop .inv .1),
-      length-set (c .before .loop .m) (c .before .loop .i) 0 ∙ c .before .loop .inv .2,
-    )
+loop-again c = (
+  omega (arith, c .loop-test .taken),
+  more (c .before .loop .m) (c .before .loop .i) (omega (arith, c .loop-test .taken, c .before .loop .inv .2)) (c .before .loop .inv .1),
+  length-set (c .before .loop .m) (c .before .loop .i) 0 ∙ c .before .loop .inv .2,
+)
+
 same-length : tie.Need-same-length Inv-loop μ-loop
 same-length c = c .before .loop .inv .2
+
 returns : tie.Need-returns Inv-loop μ-loop
 returns c =
     let n = length (c .before .before .args .m .now) in
     ext-getD 0 (c .before .loop .m) (replicate n 0) (c .before .loop .inv .2 ∙ sym (length-replicate n 0))
     (λ j h. c .before .loop .inv .1 j (omega (arith, h, c .before .loop .inv .2, c .loop-test .left)) ∙ sym (getD-replicate n j 0 0 (omega (arith, h, c .before .loop .inv .2))))
+
 pub clear-spec : {M : Type 1} → statement M
 clear-spec =
     tie.close

@@ -20,35 +20,45 @@ more m bytes n at i h e =
 
 abbrev Inv-loop : tie.InvT-loop
 Inv-loop m₀ at bytes n i₀ m i = (i ≤ n) × (m ≡ sets m₀ at (take i bytes)) × (length m ≡ length m₀)
+
 abbrev μ-loop : tie.MeasureT-loop
 μ-loop m₀ at bytes n i₀ m i = n - i
+
 loop-holds : tie.Need-loop-holds Inv-loop μ-loop
 loop-holds c = (search needs, refl, refl)
+
 shared-slice-read-m : tie.Need-shared-slice-read-m Inv-loop μ-loop
 shared-slice-read-m c = c .before .loop-test .taken
+
 add-m : tie.Need-add-m Inv-loop μ-loop
 add-m c = omega (arith, c .before .loop-test .taken, c .before .before .before .pre, c .before .before .before .good .0 .0)
+
 slice-write-m : tie.Need-slice-write-m Inv-loop μ-loop
 slice-write-m c = omega (arith, c .before .loop-test .taken, c .before .before .before .pre, c .before .before .loop .inv .2)
+
 add-i : tie.Need-add-i Inv-loop μ-loop
 add-i c = omega (arith, c .before .loop-test .taken, c .before .before .before .good .1 .1 .0 .0)
+
 loop-less : tie.Need-loop-less Inv-loop μ-loop
 loop-less c = omega (arith, c .before .loop-test .taken)
+
 loop-again : tie.Need-loop-again Inv-loop μ-loop
-loop-again c =
-    (
-      omega (arith, c .before .loop-test .taken),
-      more (c .before .before .before .args .m .now) (c .before .before .before .args .bytes .now) (c .before .before .loop .m) (c .before .before .before .args .at) (c .before .before .loop .i) (c .before .loop-test .taken) (c .before .before .loop .inv .1),
-      length-set (c .before .before .loop .m) (c .before .before .before .args .at + c .before .before .loop .i) (getD (c .before .before .before .args .bytes .now) (c .before .before .loop .i) 0) ∙ c .before .before .loop .inv .2,
-    )
+loop-again c = (
+  omega (arith, c .before .loop-test .taken),
+  more (c .before .before .before .args .m .now) (c .before .before .before .args .bytes .now) (c .before .before .loop .m) (c .before .before .before .args .at) (c .before .before .loop .i) (c .before .loop-test .taken) (c .before .before .loop .inv .1),
+  length-set (c .before .before .loop .m) (c .before .before .before .args .at + c .before .before .loop .i) (getD (c .before .before .before .args .bytes .now) (c .before .before .loop .i) 0) ∙ c .before .before .loop .inv .2,
+)
+
 same-length : tie.Need-same-length Inv-loop μ-loop
 same-length c = c .before .loop .inv .2
+
 returns : tie.Need-returns Inv-loop μ-loop
 returns c =
     let end : c .before .loop .i ≡ length (c .before .before .args .bytes .now) = omega (arith, c .before .loop .inv .0, c .loop-test .left) in
     c .before .loop .inv .1 ∙ ap (λ (k : ℕ). sets (c .before .before .args .m .now) (c .before .before .args .at) (take k (c .before .before .args .bytes .now))) end
     ∙ ap (sets (c .before .before .args .m .now) (c .before .before .args .at)) (take-length (c .before .before .args .bytes .now))
     ∙ sets-replaced (c .before .before .args .at) (c .before .before .args .bytes .now) (c .before .before .args .m .now) (c .before .before .pre)
+
 pub copy-spec : {M : Type 1} → statement M
 copy-spec =
     tie.close

@@ -1,46 +1,49 @@
+-- `layer::calls::send` meets its contract: admitted or refused.
+-- Assumes nothing.
 use borrow.Author.Needs.{needs}
 use Rattle.layer.proofs.calls.send.Statement.{statement}
+use mathlib.Core.Path.{_≡_, refl, sym, ap, _∙_}
+use mathlib.Core.Bool.{Bool, true, false, not, _&&_}
+use native.Mathlib.Omega.{arith}
+use lib.Dec.{leb}
+use lib.ListN.{length}
+use borrow.Author.Tests.{leb-true}
+use Rattle.layer.proofs.Laws.{Open, admission-open}
+use Rattle.layer.specs.Step.{step}
 use Rattle.layer.proofs.calls.send.Tie as tie
-use Rattle.layer.proofs.calls.send.Reads as reads
-use Rattle.layer.proofs.calls.send.Lts as lts
 use Rattle.layer.proofs.checks.admit.Reads as admit-reads
 use Rattle.layer.proofs.sending.send_checked.Reads as send-checked-reads
 
--- src/calls.rt:34:9
 admit-requires : tie.Need-admit-requires
 admit-requires c κs = search needs
 
--- src/calls.rt:36:29
 enum-known-admission : tie.Need-enum-known-admission
 enum-known-admission c = search needs
 
--- src/calls.rt:36:35
 send-checked-requires : tie.Need-send-checked-requires
-send-checked-requires c κs = ?
+send-checked-requires c κs =
+    let o = admission-open (c .before .before .before .before .before .before .before .before .before .before .args .t .now) (c .before .before .before .before .before .before .before .before .before .before .args .m .now) (leb 256 (length (c .before .before .before .before .before .before .before .before .before .before .args .area .now))) (λ i. c .before .before .before .before .before .before .before .before .before .shared-slice-known .given i .fits) (λ i. c .before .before .before .before .before .before .before .before .slice-known .given i .fits) _ (sym (c .before .before .before .before .before .admit .ensures) ∙ c .before .before .before .admission .given .1) in
+    (o .ready, leb-true 256 (length (c .before .before .before .before .before .before .before .before .before .before .args .area .now)) (o .area))
 
--- src/calls.rt:37:28
 enum-known-admission-2 : tie.Need-enum-known-admission-2
 enum-known-admission-2 c = search needs
 
--- src/calls.rt:31:1
 same-length : tie.Need-same-length
 same-length c = search needs
 
--- src/calls.rt:31:1
 same-length-2 : tie.Need-same-length-2
 same-length-2 c = search needs
 
--- src/calls.rt:31:1
 returns : tie.Need-returns
-returns c = ?
+unfolding step
+returns c = rw (sym (c .before .before .before .before .before .before .before .before .before .before .admit .ensures) ∙ c .before .before .before .before .before .before .before .before .admission .given .1) (c .before .before .before .before .send-checked .ensures)
 
--- src/calls.rt:31:1
 same-length-3 : tie.Need-same-length-3
 same-length-3 c = search needs
 
--- src/calls.rt:31:1
 returns-2 : tie.Need-returns-2
-returns-2 c = ?
+unfolding step
+returns-2 c = rw (sym (c .before .before .before .admit .ensures) ∙ c .before .admission2 .given .1)
 
 pub send-spec : {M : Type 1} → statement M
 send-spec =

@@ -8,10 +8,12 @@ use Rattle.table.proofs.ipdu_record.Reads as ipdu-record-reads
 
 returns : tie.Need-returns
 returns c = rw (le-ltb _ _ (c .if1 .taken))
+
 ipdu-record-requires : tie.Need-ipdu-record-requires
 ipdu-record-requires c κs = search needs
 
 returns-2 : tie.Need-returns-2
 returns-2 c = rw (lt-ltb _ _ (c .before .before .if1 .left), c .before .ipdu-record .ensures)
+
 pub is-ipdu-spec : {M : Type 1} → statement M
 is-ipdu-spec = tie.close (tie.spec returns ipdu-record-requires returns-2)

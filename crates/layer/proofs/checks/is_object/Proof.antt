@@ -8,10 +8,12 @@ use Rattle.table.proofs.object_record.Reads as object-record-reads
 
 returns : tie.Need-returns
 returns c = rw (le-ltb _ _ (c .if1 .taken))
+
 object-record-requires : tie.Need-object-record-requires
 object-record-requires c κs = search needs
 
 returns-2 : tie.Need-returns-2
 returns-2 c = rw (lt-ltb _ _ (c .before .before .if1 .left), c .before .object-record .ensures)
+
 pub is-object-spec : {M : Type 1} → statement M
 is-object-spec = tie.close (tie.spec returns object-record-requires returns-2)

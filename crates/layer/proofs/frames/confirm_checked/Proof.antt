@@ -1,58 +1,61 @@
+-- `layer::frames::confirm_checked` meets its contract.
+-- Assumes nothing.
 use borrow.Author.Needs.{needs}
 use Rattle.layer.proofs.frames.confirm_checked.Statement.{statement}
 use Rattle.layer.proofs.frames.confirm_checked.Tie as tie
-use Rattle.layer.proofs.frames.confirm_checked.Reads as reads
-use Rattle.layer.proofs.frames.confirm_checked.Lts as lts
 use Rattle.layer.proofs.checks.is_ipdu.Reads as is-ipdu-reads
 use Rattle.layer.proofs.frames.confirm_mark.Reads as confirm-mark-reads
 use Rattle.message.proofs.mark_objects.Reads as mark-objects-reads
+use mathlib.Core.Path.{_≡_, refl, sym, ap, ap₂, _∙_}
+use Prim.Native.Nat.{ℕ, _≤_}
+use native.Mathlib.Omega.{arith}
+use borrow.Author.Tests.{leb-true, lt-ltb, le-ltb, ltb-true, eq-eqb, ne-eqb, not-true, not-false}
+use Rattle.state.specs.declared.IpduState.{IpduState}
+use Rattle.layer.specs.Calls.{confirmIn}
+use Rattle.layer.proofs.Laws.{ipdu-there}
 use Rattle.state.proofs.ipdu_state.Reads as ipdu-state-reads
 use Rattle.table.proofs.decode_ipdu.Reads as decode-ipdu-reads
 use Rattle.transmission.proofs.confirm.Reads as confirm-reads
 
--- src/frames.rt:71:9
 is-ipdu-requires : tie.Need-is-ipdu-requires
 is-ipdu-requires c κs = search needs
 
--- src/frames.rt:72:9
 returns : tie.Need-returns
-returns c = ?
+unfolding confirmIn
+returns c = rw (sym (c .before .is-ipdu .ensures) ∙ not-true _ (c .if1 .taken))
 
--- src/frames.rt:74:9
 ipdu-state-requires : tie.Need-ipdu-state-requires
-ipdu-state-requires c κs = ?
+ipdu-state-requires c κs = omega (arith, ipdu-there (c .before .before .before .before .before .args .t .now) (c .before .before .before .before .before .args .c) 1 (c .before .before .before .before .before .args .number .0) (sym (c .before .before .is-ipdu .ensures) ∙ not-false _ (c .before .if1 .left)), c .before .before .before .before .before .pre .right .shape .ipdus, c .before .before .before .before .before .pre .long)
 
--- src/frames.rt:76:9
 same-length : tie.Need-same-length
 same-length c = search needs
 
--- src/frames.rt:76:9
 returns-2 : tie.Need-returns-2
-returns-2 c = ?
+unfolding confirmIn
+returns-2 c =
+    let same = ap (λ (s : IpduState). s .requested) (c .before .before .ipdu-state .ensures) in
+    rw (sym (c .before .before .before .before .before .is-ipdu .ensures) ∙ not-false _ (c .before .before .before .before .if1 .left), eq-eqb _ _ (sym same ∙ c .if2 .taken))
 
--- src/frames.rt:78:38
 decode-ipdu-requires : tie.Need-decode-ipdu-requires
-decode-ipdu-requires c κs = ?
+decode-ipdu-requires c κs = omega (arith, ipdu-there (c .before .before .before .before .before .before .before .before .before .args .t .now) (c .before .before .before .before .before .before .before .before .before .args .c) 1 (c .before .before .before .before .before .before .before .before .before .args .number .0) (sym (c .before .before .before .before .before .before .is-ipdu .ensures) ∙ not-false _ (c .before .before .before .before .before .if1 .left)), c .before .before .before .before .before .before .before .before .before .pre .right .shape .long)
 
--- src/frames.rt:78:5
 confirm-requires : tie.Need-confirm-requires
-confirm-requires c κs = ?
+confirm-requires c κs = (omega (arith, ipdu-there (c .before .before .before .before .before .before .before .before .before .before .args .t .now) (c .before .before .before .before .before .before .before .before .before .before .args .c) 1 (c .before .before .before .before .before .before .before .before .before .before .args .number .0) (sym (c .before .before .before .before .before .before .before .is-ipdu .ensures) ∙ not-false _ (c .before .before .before .before .before .before .if1 .left)), c .before .before .before .before .before .before .before .before .before .before .pre .right .shape .ipdus), c .before .before .before .before .before .before .before .before .before .before .pre .long)
 
--- src/frames.rt:79:44
 confirm-mark-requires : tie.Need-confirm-mark-requires
 confirm-mark-requires c κs = search needs
 
--- src/frames.rt:79:5
 mark-objects-requires : tie.Need-mark-objects-requires
-mark-objects-requires c κs = ?
+mark-objects-requires c κs = (c .before .before .before .before .before .before .before .before .before .before .before .before .before .before .before .pre .right .shape, search (needs, c .before .before .before .before .before .before .before .before .before .before .before .before .before .before .before .pre))
 
--- src/frames.rt:67:1
 same-length-2 : tie.Need-same-length-2
 same-length-2 c = search needs
 
--- src/frames.rt:67:1
 returns-3 : tie.Need-returns-3
-returns-3 c = ?
+unfolding confirmIn
+returns-3 c =
+    let same = ap (λ (s : IpduState). s .requested) (c .before .before .before .before .before .before .before .before .before .before .before .before .ipdu-state .ensures) in
+    rw (sym (c .before .before .before .before .before .before .before .before .before .before .before .before .before .before .before .is-ipdu .ensures) ∙ not-false _ (c .before .before .before .before .before .before .before .before .before .before .before .before .before .before .if1 .left), ne-eqb _ _ (λ e. c .before .before .before .before .before .before .before .before .before .before .if2 .left (same ∙ e)), c .before .before .mark-objects .ensures, c .before .before .before .confirm-mark .ensures, c .before .before .before .before .before .before .before .confirm .ensures, c .before .before .before .before .before .before .before .before .decode-ipdu .ensures)
 
 pub confirm-checked-spec : {M : Type 1} → statement M
 confirm-checked-spec =

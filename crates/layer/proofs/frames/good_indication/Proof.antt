@@ -1,56 +1,72 @@
+-- `layer::frames::good_indication` meets its contract.
+-- Assumes nothing.
 use borrow.Author.Needs.{needs}
 use Rattle.layer.proofs.frames.good_indication.Statement.{statement}
 use Rattle.layer.proofs.frames.good_indication.Tie as tie
-use Rattle.layer.proofs.frames.good_indication.Reads as reads
-use Rattle.layer.proofs.frames.good_indication.Lts as lts
-use Rattle.layer.proofs.frames.copy.Reads as copy-reads
+use Rattle.memory.proofs.copy.Reads as copy-reads
+use mathlib.Core.Path.{_≡_, refl, sym, ap, ap₂, _∙_}
+use mathlib.Core.Logic.{inl}
+use Prim.Native.Nat.{ℕ, _+_, _*_, _≤_, _<_}
+use native.Mathlib.Omega.{arith}
+use borrow.Author.Tests.{leb-true, lt-ltb, le-ltb, ltb-true, eq-eqb, ne-eqb, not-true, not-false}
+use lib.ListN.{length}
+use Rattle.table.specs.declared.Ipdu.{Ipdu}
+use Rattle.table.specs.Decode.{ipduOf}
+use Rattle.state.proofs.Ready.{ready-bytes}
+use Rattle.layer.proofs.Laws.{ipdu-short}
 use Rattle.message.proofs.deliver_frame.Reads as deliver-frame-reads
 use Rattle.table.proofs.decode_ipdu.Reads as decode-ipdu-reads
 use Rattle.transmission.proofs.set_timer.Reads as set-timer-reads
 
--- src/frames.rt:41:9
 decode-ipdu-requires : tie.Need-decode-ipdu-requires
 decode-ipdu-requires c κs = search needs
 
--- src/frames.rt:42:16
 cast-size : tie.Need-cast-size
 cast-size c = search needs
 
--- src/frames.rt:44:9
 returns : tie.Need-returns
-returns c = ?
+unfolding ipduOf
+returns c =
+    let same = ap (λ (p : Ipdu). p .length .0) (c .before .before .decode-ipdu .ensures) in
+    rw (ne-eqb _ _ (λ e. c .if1 .taken (e ∙ sym same)))
 
--- src/frames.rt:46:27
 cast-at : tie.Need-cast-at
 cast-at c = search needs
 
--- src/frames.rt:46:22
 mul-at : tie.Need-mul-at
 mul-at c = search needs
 
--- src/frames.rt:46:14
 add-at : tie.Need-add-at
 add-at c = search needs
 
--- src/frames.rt:47:5
 copy-requires : tie.Need-copy-requires
-copy-requires c κs = ?
+unfolding ipduOf
+copy-requires c κs =
+    let same = ap (λ (p : Ipdu). p .length .0) (c .before .before .before .before .decode-ipdu .ensures) in
+    let low = ipdu-short (c .before .before .before .before .before .before .before .before .args .t .now) (c .before .before .before .before .before .before .before .before .args .c) (c .before .before .before .before .before .before .before .before .args .m .now) (c .before .before .before .before .before .before .before .before .pre .0) (c .before .before .before .before .before .before .before .before .args .number .0) (c .before .before .before .before .before .before .before .before .pre .1) in
+    omega (arith, c .before .before .if1 .left ∙ same, low, c .before .before .before .before .before .before .before .before .pre .1, c .before .before .before .before .before .before .before .before .pre .0 .right .shape .ipdus, c .before .before .before .before .before .before .before .before .pre .0 .long)
 
--- src/frames.rt:48:5
 deliver-frame-requires : tie.Need-deliver-frame-requires
-deliver-frame-requires c κs = ?
+unfolding ipduOf
+deliver-frame-requires c κs =
+    let same = ap (λ (p : Ipdu). p .length .0) (c .before .before .before .before .before .before .before .before .decode-ipdu .ensures) in
+    let low = ipdu-short (c .before .before .before .before .before .before .before .before .before .before .before .before .args .t .now) (c .before .before .before .before .before .before .before .before .before .before .before .before .args .c) (c .before .before .before .before .before .before .before .before .before .before .before .before .args .m .now) (c .before .before .before .before .before .before .before .before .before .before .before .before .pre .0) (c .before .before .before .before .before .before .before .before .before .before .before .before .args .number .0) (c .before .before .before .before .before .before .before .before .before .before .before .before .pre .1) in
+    let size : length (c .before .before .before .before .before .before .before .before .before .before .before .before .args .bytes .now) ≤ 8 = omega (arith, c .before .before .before .before .before .before .if1 .left ∙ same, low) in
+    let below : c .before .before .before .before .before .before .before .before .before .before .before .before .args .number .0 < 32 = omega (arith, c .before .before .before .before .before .before .before .before .before .before .before .before .pre .1, c .before .before .before .before .before .before .before .before .before .before .before .before .pre .0 .right .shape .ipdus) in
+    rw (c .before .before .before .copy .ensures)
+    (ready-bytes (c .before .before .before .before .before .before .before .before .before .before .before .before .args .t .now) (c .before .before .before .before .before .before .before .before .before .before .before .before .args .c) (c .before .before .before .before .before .before .before .before .before .before .before .before .args .m .now) (c .before .before .before .before .before .before .before .before .before .before .before .before .pre .0) (528 + 8 * (c .before .before .before .before .before .before .before .before .before .before .before .before .args .number .0)) (c .before .before .before .before .before .before .before .before .before .before .before .before .args .bytes .now) (λ i. c .before .before .before .before .before .before .before .before .before .shared-slice-known2 .given i .fits) (omega (arith, size, below, c .before .before .before .before .before .before .before .before .before .before .before .before .pre .0 .long)) (inl (omega arith, omega (arith, size, below))), c .before .before .before .before .before .before .before .before .before .before .before .before .pre .1)
 
--- src/frames.rt:49:5
 set-timer-requires : tie.Need-set-timer-requires
 set-timer-requires c κs = search needs
 
--- src/frames.rt:36:1
 same-length : tie.Need-same-length
 same-length c = search needs
 
--- src/frames.rt:36:1
 returns-2 : tie.Need-returns-2
-returns-2 c = ?
+unfolding ipduOf
+returns-2 c =
+    let same = ap (λ (p : Ipdu). p .length .0) (c .before .before .before .before .before .before .before .before .before .before .before .before .before .before .before .decode-ipdu .ensures) in
+    rw (eq-eqb _ _ (c .before .before .before .before .before .before .before .before .before .before .before .before .before .if1 .left ∙ same), c .before .before .set-timer .ensures, c .before .before .before .before .before .before .deliver-frame .ensures, c .before .before .before .before .before .before .before .before .before .before .copy .ensures, c .before .before .before .before .before .before .before .before .before .before .before .before .before .before .before .decode-ipdu .ensures)
 
 pub good-indication-spec : {M : Type 1} → statement M
 good-indication-spec =

@@ -1,43 +1,43 @@
+-- `layer::frames::indication_checked` meets its contract.
+-- Assumes nothing.
 use borrow.Author.Needs.{needs}
 use Rattle.layer.proofs.frames.indication_checked.Statement.{statement}
 use Rattle.layer.proofs.frames.indication_checked.Tie as tie
-use Rattle.layer.proofs.frames.indication_checked.Reads as reads
-use Rattle.layer.proofs.frames.indication_checked.Lts as lts
+use mathlib.Core.Path.{_≡_, refl, sym, ap, ap₂, _∙_}
+use native.Mathlib.Omega.{arith}
+use borrow.Author.Tests.{leb-true, lt-ltb, le-ltb, ltb-true, eq-eqb, ne-eqb, not-true, not-false}
+use Rattle.layer.specs.Calls.{indicationIn}
+use Rattle.layer.proofs.Laws.{ipdu-there}
 use Rattle.layer.proofs.checks.is_ipdu.Reads as is-ipdu-reads
 use Rattle.layer.proofs.frames.good_indication.Reads as good-indication-reads
 use Rattle.message.proofs.mark_objects.Reads as mark-objects-reads
 
--- src/frames.rt:26:9
 is-ipdu-requires : tie.Need-is-ipdu-requires
 is-ipdu-requires c κs = search needs
 
--- src/frames.rt:27:9
 returns : tie.Need-returns
-returns c = ?
+unfolding indicationIn
+returns c = rw (sym (c .before .is-ipdu .ensures) ∙ not-true _ (c .if1 .taken))
 
--- src/frames.rt:30:9
 mark-objects-requires : tie.Need-mark-objects-requires
 mark-objects-requires c κs = search needs
 
--- src/frames.rt:31:9
 same-length : tie.Need-same-length
 same-length c = search needs
 
--- src/frames.rt:31:9
 returns-2 : tie.Need-returns-2
-returns-2 c = ?
+unfolding indicationIn
+returns-2 c = rw (sym (c .before .before .before .before .before .before .is-ipdu .ensures) ∙ not-false _ (c .before .before .before .before .before .if1 .left), not-true (c .before .before .before .before .before .before .before .before .before .before .args .good) (c .before .before .before .before .if2 .taken), c .before .before .mark-objects .ensures)
 
--- src/frames.rt:33:5
 good-indication-requires : tie.Need-good-indication-requires
-good-indication-requires c κs = ?
+good-indication-requires c κs = (c .before .before .before .before .before .before .before .pre, ipdu-there (c .before .before .before .before .before .before .before .args .t .now) (c .before .before .before .before .before .before .before .args .c) 2 (c .before .before .before .before .before .before .before .args .number .0) (sym (c .before .before .before .is-ipdu .ensures) ∙ not-false _ (c .before .before .if1 .left)))
 
--- src/frames.rt:22:1
 same-length-2 : tie.Need-same-length-2
 same-length-2 c = search needs
 
--- src/frames.rt:22:1
 returns-3 : tie.Need-returns-3
-returns-3 c = ?
+unfolding indicationIn
+returns-3 c = rw (sym (c .before .before .before .before .before .before .is-ipdu .ensures) ∙ not-false _ (c .before .before .before .before .before .if1 .left), not-false (c .before .before .before .before .before .before .before .before .before .before .args .good) (c .before .before .before .before .if2 .left)) (c .before .before .good-indication .ensures)
 
 pub indication-checked-spec : {M : Type 1} → statement M
 indication-checked-spec =

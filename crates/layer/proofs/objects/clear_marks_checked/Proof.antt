@@ -13,6 +13,7 @@ use Rattle.state.proofs.set_object_state.Reads as set-object-state-reads
 returns : tie.Need-returns
 unfolding clearMarksIn
 returns c = rw (le-ltb _ _ (c .if1 .taken))
+
 object-state-requires : tie.Need-object-state-requires
 object-state-requires c κs = search needs
 
@@ -25,6 +26,7 @@ same-length c = search needs
 returns-2 : tie.Need-returns-2
 unfolding clearMarksIn
 returns-2 c = rw (lt-ltb _ _ (c .before .before .before .before .before .before .if1 .left), c .before .before .set-object-state .ensures, c .before .before .before .before .object-state .ensures)
+
 pub clear-marks-checked-spec : {M : Type 1} → statement M
 clear-marks-checked-spec =
     tie.close

@@ -7,7 +7,9 @@ use Rattle.layer.proofs.objects.limited.Tie as tie
 
 returns : tie.Need-returns
 returns c = rw (eq-eqb _ _ (c .if1 .taken))
+
 returns-2 : tie.Need-returns-2
 returns-2 c = rw (ne-eqb _ _ (c .if1 .left))
+
 pub limited-spec : {M : Type 1} → statement M
 limited-spec = tie.close (tie.spec returns returns-2)

@@ -23,6 +23,7 @@ returns : tie.Need-returns
 returns c =
     let none = sym (ap (λ (s : ObjectState). s .count) (c .before .before .object-state .ensures)) ∙ c .if1 .taken in
     rw (eq-eqb _ _ none)
+
 oldest-requires : tie.Need-oldest-requires
 oldest-requires c κs = search needs
 
@@ -30,6 +31,7 @@ take-requires : tie.Need-take-requires
 take-requires c κs =
     let same = ap (λ (s : ObjectState). s .count) (c .before .before .before .before .before .object-state .ensures) in
     (c .before .before .before .before .before .before .before .before .pre, omega (arith, same, c .before .before .before .if1 .left))
+
 limited-requires : tie.Need-limited-requires
 limited-requires c κs = search needs
 
@@ -40,6 +42,7 @@ returns-2 : tie.Need-returns-2
 returns-2 c =
     let same = ap (λ (s : ObjectState). s .count) (c .before .before .before .before .before .before .before .before .before .object-state .ensures) in
     rw (ne-eqb _ _ (λ e. c .before .before .before .before .before .before .before .if1 .left (same ∙ e)), c .limited .ensures, c .before .before .before .take .ensures, c .before .before .before .before .before .oldest .ensures, c .before .before .before .before .before .before .before .before .before .object-state .ensures)
+
 pub receive-queued-spec : {M : Type 1} → statement M
 receive-queued-spec =
     tie.close

@@ -1,44 +1,48 @@
+-- `layer::sending::request` meets its contract.
+-- Assumes nothing.
 use borrow.Author.Needs.{needs}
 use Rattle.layer.proofs.sending.request.Statement.{statement}
 use Rattle.layer.proofs.sending.request.Tie as tie
-use Rattle.layer.proofs.sending.request.Reads as reads
-use Rattle.layer.proofs.sending.request.Lts as lts
 use Rattle.layer.proofs.sending.wants.Reads as wants-reads
+use mathlib.Core.Path.{_≡_, refl, sym, ap, ap₂, _∙_}
+use Prim.Native.Nat.{_+_, _*_, _≤_, _<_}
+use borrow.Author.Tests.{leb-true, lt-ltb, le-ltb, ltb-true, eq-eqb, ne-eqb, not-true, not-false}
+use native.Mathlib.Omega.{arith}
+use Rattle.layer.specs.Calls.{request}
+use Rattle.layer.proofs.Laws.{wants-some}
 use Rattle.state.proofs.ipdu_state.Reads as ipdu-state-reads
 use Rattle.table.proofs.decode_ipdu.Reads as decode-ipdu-reads
 use Rattle.transmission.proofs.offer.Reads as offer-reads
 
--- src/sending.rt:44:9
 wants-requires : tie.Need-wants-requires
 wants-requires c κs = search needs
 
--- src/sending.rt:45:9
 returns : tie.Need-returns
-returns c = ?
+unfolding request
+returns c = rw (sym (c .before .wants .ensures) ∙ not-true _ (c .if1 .taken))
 
--- src/sending.rt:48:9
 decode-ipdu-requires : tie.Need-decode-ipdu-requires
-decode-ipdu-requires c κs = ?
+decode-ipdu-requires c κs = c .before .before .before .before .before .before .pre .0 .inside (wants-some (c .before .before .before .before .before .before .args .t .now) (c .before .before .before .before .before .before .args .o) (sym (c .before .before .wants .ensures) ∙ not-false _ (c .before .if1 .left)))
 
--- src/sending.rt:49:9
 ipdu-state-requires : tie.Need-ipdu-state-requires
-ipdu-state-requires c κs = ?
+ipdu-state-requires c κs =
+    let low = c .before .before .before .before .before .before .before .before .pre .0 .number (wants-some (c .before .before .before .before .before .before .before .before .args .t .now) (c .before .before .before .before .before .before .before .before .args .o) (sym (c .before .before .before .before .wants .ensures) ∙ not-false _ (c .before .before .before .if1 .left))) in
+    omega (arith, low, c .before .before .before .before .before .before .before .before .pre .1 .0)
 
--- src/sending.rt:51:9
 offer-requires : tie.Need-offer-requires
-offer-requires c κs = ?
+offer-requires c κs =
+    let some = wants-some (c .before .before .before .before .before .before .before .before .before .before .before .args .t .now) (c .before .before .before .before .before .before .before .before .before .before .before .args .o) (sym (c .before .before .before .before .before .before .before .wants .ensures) ∙ not-false _ (c .before .before .before .before .before .before .if1 .left)) in
+    rw (c .before .before .before .before .decode-ipdu .ensures) (c .before .before .before .before .before .before .before .before .before .before .before .pre .0 .number some, (c .before .before .before .before .before .before .before .before .before .before .before .pre .1 .0, c .before .before .before .before .before .before .before .before .before .before .before .pre .1 .1, c .before .before .before .before .before .before .before .before .before .before .before .pre .0 .few some))
 
--- src/sending.rt:39:1
 same-length : tie.Need-same-length
 same-length c = search needs
 
--- src/sending.rt:39:1
 same-length-2 : tie.Need-same-length-2
 same-length-2 c = search needs
 
--- src/sending.rt:39:1
 returns-2 : tie.Need-returns-2
-returns-2 c = ?
+unfolding request
+returns-2 c = rw (sym (c .before .before .before .before .before .before .before .before .before .before .before .before .wants .ensures) ∙ not-false _ (c .before .before .before .before .before .before .before .before .before .before .before .if1 .left)) (rw (c .before .before .before .before .offer .ensures .0, c .before .before .before .before .offer .ensures .1 .0, c .before .before .before .before .offer .ensures .1 .1, c .before .before .before .before .before .before .before .before .before .decode-ipdu .ensures, c .before .before .before .before .before .before .before .ipdu-state .ensures))
 
 pub request-spec : {M : Type 1} → statement M
 request-spec =

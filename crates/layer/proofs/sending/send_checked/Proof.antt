@@ -1,62 +1,77 @@
+-- `layer::sending::send_checked` meets its contract.
+-- Assumes nothing.
 use borrow.Author.Needs.{needs}
 use Rattle.layer.proofs.sending.send_checked.Statement.{statement}
 use Rattle.layer.proofs.sending.send_checked.Tie as tie
-use Rattle.layer.proofs.sending.send_checked.Reads as reads
-use Rattle.layer.proofs.sending.send_checked.Lts as lts
 use Rattle.layer.proofs.checks.is_object.Reads as is-object-reads
 use Rattle.layer.proofs.sending.request.Reads as request-reads
 use Rattle.message.proofs.deliver_inside.Reads as deliver-inside-reads
+use mathlib.Core.Path.{_≡_, refl, sym, ap, ap₂, _∙_}
+use Prim.Native.Nat.{ℕ}
+use native.Mathlib.Omega.{arith}
+use borrow.Author.Tests.{leb-true, lt-ltb, le-ltb, ltb-true, eq-eqb, ne-eqb, not-true, not-false}
+use Rattle.table.proofs.Accepted.{usable}
+use Rattle.message.proofs.Kept.{ready-held, ready-period, ready-placed}
+use mathlib.Core.List.{List}
+use Rattle.table.specs.declared.Object.{Object}
+use Rattle.layer.specs.Calls.{request, filterOf, sendOf, sendIn}
+use Rattle.layer.proofs.Laws.{object-there, has-ipdu, send-dropped, send-passed}
 use Rattle.message.proofs.filter_sent.Reads as filter-sent-reads
 use Rattle.message.proofs.pack.Reads as pack-reads
 use Rattle.table.proofs.decode_object.Reads as decode-object-reads
 
--- src/sending.rt:26:9
 is-object-requires : tie.Need-is-object-requires
 is-object-requires c κs = search needs
 
--- src/sending.rt:27:9
 returns : tie.Need-returns
-returns c = ?
+unfolding sendIn
+returns c = rw (sym (c .before .is-object .ensures) ∙ not-true _ (c .if1 .taken))
 
--- src/sending.rt:29:9
 decode-object-requires : tie.Need-decode-object-requires
-decode-object-requires c κs = ?
+decode-object-requires c κs = (omega (arith, object-there (c .before .before .before .before .before .args .t .now) (c .before .before .before .before .before .args .c) 1 (c .before .before .before .before .before .args .number .0) (sym (c .before .is-object .ensures) ∙ not-false _ (c .if1 .left)), c .before .before .before .before .before .pre .0 .right .shape .long), usable (c .before .before .before .before .before .args .t .now) (c .before .before .before .before .before .args .c) (c .before .before .before .before .before .pre .0 .right) (c .before .before .before .before .before .args .number .0) (object-there (c .before .before .before .before .before .args .t .now) (c .before .before .before .before .before .args .c) 1 (c .before .before .before .before .before .args .number .0) (sym (c .before .is-object .ensures) ∙ not-false _ (c .if1 .left))) .start)
 
--- src/sending.rt:30:5
 deliver-inside-requires : tie.Need-deliver-inside-requires
 deliver-inside-requires c κs = search needs
 
--- src/sending.rt:31:9
 filter-sent-requires : tie.Need-filter-sent-requires
-filter-sent-requires c κs = ?
+filter-sent-requires c κs =
+    let low = object-there (c .before .before .before .before .before .before .before .before .before .before .before .args .t .now) (c .before .before .before .before .before .before .before .before .before .before .before .args .c) 1 (c .before .before .before .before .before .before .before .before .before .before .before .args .number .0) (sym (c .before .before .before .before .before .before .before .is-object .ensures) ∙ not-false _ (c .before .before .before .before .before .before .if1 .left)) in
+    rw (c .before .before .before .before .before .decode-object .ensures) (search (needs, low, c .before .before .before .before .before .before .before .before .before .before .before .pre .0, c .before .before .before .before .before .before .before .before .before .before .before .pre .0 .right .shape), ready-period (c .before .before .before .before .before .before .before .before .before .before .before .args .t .now) (c .before .before .before .before .before .before .before .before .before .before .before .args .c) (c .before .before .before .before .before .before .before .before .before .before .before .args .m .now) (c .before .before .before .before .before .before .before .before .before .before .before .pre .0) (c .before .before .before .before .before .before .before .before .before .before .before .args .number .0) low)
 
--- src/sending.rt:32:9
 same-length : tie.Need-same-length
 same-length c = search needs
 
--- src/sending.rt:32:9
 returns-2 : tie.Need-returns-2
-returns-2 c = ?
+unfolding sendIn sendOf
+returns-2 c =
+    rw (sym (c .before .before .before .before .before .before .before .before .before .before .before .is-object .ensures) ∙ not-false _ (c .before .before .before .before .before .before .before .before .before .before .if1 .left))
+    (send-dropped (c .before .before .before .before .before .before .before .before .before .before .before .before .before .before .before .args .t .now) _ (c .before .before .before .before .before .before .before .before .before .before .before .before .before .before .before .args .number .0) (c .before .before .before .before .before .before .before .before .before .before .before .before .before .before .before .args .v) (c .before .before .before .before .before .before .before .before .before .before .before .before .before .before .before .args .area .now) _ _ _ (c .before .before .before .filter-sent .ensures .0) (c .before .before .before .filter-sent .ensures .1) (not-true _ (c .if2 .taken))
+    ∙ ap₂ (λ (o : Object) (m : List ℕ). filterOf (c .before .before .before .before .before .before .before .before .before .before .before .before .before .before .before .args .t .now) o (c .before .before .before .before .before .before .before .before .before .before .before .before .before .before .before .args .number .0) (c .before .before .before .before .before .before .before .before .before .before .before .before .before .before .before .args .v) (c .before .before .before .before .before .before .before .before .before .before .before .before .before .before .before .args .area .now) m) (c .before .before .before .before .before .before .before .before .before .decode-object .ensures) (c .before .before .before .before .before .before .before .deliver-inside .ensures))
 
--- src/sending.rt:34:5
 pack-requires : tie.Need-pack-requires
-pack-requires c κs = ?
+pack-requires c κs =
+    let low = object-there (c .before .before .before .before .before .before .before .before .before .before .before .before .before .before .before .before .args .t .now) (c .before .before .before .before .before .before .before .before .before .before .before .before .before .before .before .before .args .c) 1 (c .before .before .before .before .before .before .before .before .before .before .before .before .before .before .before .before .args .number .0) (sym (c .before .before .before .before .before .before .before .before .before .before .before .before .is-object .ensures) ∙ not-false _ (c .before .before .before .before .before .before .before .before .before .before .before .if1 .left)) in
+    let placed = ready-placed (c .before .before .before .before .before .before .before .before .before .before .before .before .before .before .before .before .args .t .now) (c .before .before .before .before .before .before .before .before .before .before .before .before .before .before .before .before .args .c) (c .before .before .before .before .before .before .before .before .before .before .before .before .before .before .before .before .args .m .now) (c .before .before .before .before .before .before .before .before .before .before .before .before .before .before .before .before .pre .0) (c .before .before .before .before .before .before .before .before .before .before .before .before .before .before .before .before .args .number .0) low in
+    rw (c .before .before .before .before .before .before .before .before .before .before .decode-object .ensures) (record { long = search (needs, c .before .before .before .before .before .before .before .before .before .before .before .before .before .before .before .before .pre .0); slot = placed .slot; ipdu = placed .ipdu })
 
--- src/sending.rt:35:5
 request-requires : tie.Need-request-requires
-request-requires c κs = ?
+request-requires c κs =
+    let low = object-there (c .before .before .before .before .before .before .before .before .before .before .before .before .before .before .before .before .before .before .before .before .before .args .t .now) (c .before .before .before .before .before .before .before .before .before .before .before .before .before .before .before .before .before .before .before .before .before .args .c) 1 (c .before .before .before .before .before .before .before .before .before .before .before .before .before .before .before .before .before .before .before .before .before .args .number .0) (sym (c .before .before .before .before .before .before .before .before .before .before .before .before .before .before .before .before .before .is-object .ensures) ∙ not-false _ (c .before .before .before .before .before .before .before .before .before .before .before .before .before .before .before .before .if1 .left)) in
+    rw (c .before .before .before .before .before .before .before .before .before .before .before .before .before .before .before .decode-object .ensures) (has-ipdu (c .before .before .before .before .before .before .before .before .before .before .before .before .before .before .before .before .before .before .before .before .before .args .t .now) (c .before .before .before .before .before .before .before .before .before .before .before .before .before .before .before .before .before .before .before .before .before .args .c) (c .before .before .before .before .before .before .before .before .before .before .before .before .before .before .before .before .before .before .before .before .before .args .m .now) (c .before .before .before .before .before .before .before .before .before .before .before .before .before .before .before .before .before .before .before .before .before .pre .0) (c .before .before .before .before .before .before .before .before .before .before .before .before .before .before .before .before .before .before .before .before .before .args .number .0) low, (search (needs, c .before .before .before .before .before .before .before .before .before .before .before .before .before .before .before .before .before .before .before .before .before .pre .0), search (needs, c .before .before .before .before .before .before .before .before .before .before .before .before .before .before .before .before .before .before .before .before .before .pre .1)))
 
--- src/sending.rt:21:1
 same-length-2 : tie.Need-same-length-2
 same-length-2 c = search needs
 
--- src/sending.rt:21:1
 same-length-3 : tie.Need-same-length-3
 same-length-3 c = search needs
 
--- src/sending.rt:21:1
 returns-3 : tie.Need-returns-3
-returns-3 c = ?
+unfolding sendIn sendOf
+returns-3 c =
+    rw (sym (c .before .before .before .before .before .before .before .before .before .before .before .before .before .before .before .before .before .before .before .before .before .before .is-object .ensures) ∙ not-false _ (c .before .before .before .before .before .before .before .before .before .before .before .before .before .before .before .before .before .before .before .before .before .if1 .left))
+    (send-passed (c .before .before .before .before .before .before .before .before .before .before .before .before .before .before .before .before .before .before .before .before .before .before .before .before .before .before .args .t .now) _ (c .before .before .before .before .before .before .before .before .before .before .before .before .before .before .before .before .before .before .before .before .before .before .before .before .before .before .args .number .0) (c .before .before .before .before .before .before .before .before .before .before .before .before .before .before .before .before .before .before .before .before .before .before .before .before .before .before .args .v) (c .before .before .before .before .before .before .before .before .before .before .before .before .before .before .before .before .before .before .before .before .before .before .before .before .before .before .args .area .now) _ _ _ (c .before .before .before .before .before .before .before .before .before .before .before .before .before .before .filter-sent .ensures .0) (c .before .before .before .before .before .before .before .before .before .before .before .before .before .before .filter-sent .ensures .1) _ (not-false _ (c .before .before .before .before .before .before .before .before .before .before .before .if2 .left))
+    (c .before .before .before .before .request .ensures ∙ ap (λ (m : List ℕ). request (c .before .before .before .before .before .before .before .before .before .before .before .before .before .before .before .before .before .before .before .before .before .before .before .before .before .before .args .t .now) (c .before .before .before .before .before .before .before .before .before .before .before .before .before .before .before .before .before .before .before .before .decode-object .result) (c .before .before .before .before .before .before .before .before .before .before .before .before .before .before .before .before .before .before .before .before .before .before .before .before .before .before .args .area .now) m) (c .before .before .before .before .before .before .before .before .before .pack .ensures))
+    ∙ ap₂ (λ (o : Object) (m : List ℕ). filterOf (c .before .before .before .before .before .before .before .before .before .before .before .before .before .before .before .before .before .before .before .before .before .before .before .before .before .before .args .t .now) o (c .before .before .before .before .before .before .before .before .before .before .before .before .before .before .before .before .before .before .before .before .before .before .before .before .before .before .args .number .0) (c .before .before .before .before .before .before .before .before .before .before .before .before .before .before .before .before .before .before .before .before .before .before .before .before .before .before .args .v) (c .before .before .before .before .before .before .before .before .before .before .before .before .before .before .before .before .before .before .before .before .before .before .before .before .before .before .args .area .now) m) (c .before .before .before .before .before .before .before .before .before .before .before .before .before .before .before .before .before .before .before .before .decode-object .ensures) (c .before .before .before .before .before .before .before .before .before .before .before .before .before .before .before .before .before .before .deliver-inside .ensures))
 
 pub send-checked-spec : {M : Type 1} → statement M
 send-checked-spec =

@@ -1,31 +1,32 @@
+-- `layer::sending::wants` meets its contract.
+-- Assumes nothing.
 use borrow.Author.Needs.{needs}
 use Rattle.layer.proofs.sending.wants.Statement.{statement}
 use Rattle.layer.proofs.sending.wants.Tie as tie
-use Rattle.layer.proofs.sending.wants.Reads as reads
-use Rattle.layer.proofs.sending.wants.Lts as lts
+use mathlib.Core.Path.{_≡_, refl, sym, ap, ap₂, _∙_}
+use borrow.Author.Tests.{leb-true, lt-ltb, le-ltb, ltb-true, eq-eqb, ne-eqb, not-true, not-false}
+use native.Mathlib.Omega.{arith}
+use Rattle.layer.specs.Calls.{wants}
 use Rattle.layer.proofs.sending.is_periodic.Reads as is-periodic-reads
 use Rattle.layer.proofs.sending.is_triggered.Reads as is-triggered-reads
 use Rattle.table.proofs.decode_ipdu.Reads as decode-ipdu-reads
 
--- src/sending.rt:62:9
 returns : tie.Need-returns
-returns c = ?
+unfolding wants
+returns c = rw (eq-eqb _ _ (c .if1 .taken))
 
--- src/sending.rt:65:9
 decode-ipdu-requires : tie.Need-decode-ipdu-requires
-decode-ipdu-requires c κs = ?
+decode-ipdu-requires c κs = c .before .before .pre .inside (ne-eqb _ _ (c .if1 .left))
 
--- src/sending.rt:67:9
 is-triggered-requires : tie.Need-is-triggered-requires
 is-triggered-requires c κs = search needs
 
--- src/sending.rt:68:9
 is-periodic-requires : tie.Need-is-periodic-requires
 is-periodic-requires c κs = search needs
 
--- src/sending.rt:56:1
 returns-2 : tie.Need-returns-2
-returns-2 c = ?
+unfolding wants
+returns-2 c = rw (ne-eqb _ _ (c .before .before .before .if1 .left), c .before .is-triggered .ensures, c .is-periodic .ensures, c .before .before .decode-ipdu .ensures)
 
 pub wants-spec : {M : Type 1} → statement M
 wants-spec =

@@ -1,15 +1,15 @@
+-- `layer::starting::first_or_next` meets its contract.
+-- Assumes nothing.
+use borrow.Author.Tests.{leb-true, lt-ltb, le-ltb, ltb-true, eq-eqb, ne-eqb, not-true, not-false}
+use borrow.Author.Needs.{needs}
 use Rattle.layer.proofs.starting.first_or_next.Statement.{statement}
 use Rattle.layer.proofs.starting.first_or_next.Tie as tie
-use Rattle.layer.proofs.starting.first_or_next.Reads as reads
-use Rattle.layer.proofs.starting.first_or_next.Lts as lts
 
--- src/starting.rt:139:9
 returns : tie.Need-returns
-returns c = ?
+returns c = rw (eq-eqb _ _ (c .if1 .taken))
 
--- src/starting.rt:135:1
 returns-2 : tie.Need-returns-2
-returns-2 c = ?
+returns-2 c = rw (ne-eqb _ _ (c .if1 .left))
 
 pub first-or-next-spec : {M : Type 1} → statement M
 first-or-next-spec = tie.close (tie.spec returns returns-2)

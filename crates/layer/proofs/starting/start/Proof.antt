@@ -1,54 +1,51 @@
+-- `layer::starting::start` meets its contract, by the verdict.
+-- Assumes nothing.
 use borrow.Author.Needs.{needs}
 use Rattle.layer.proofs.starting.start.Statement.{statement}
+use mathlib.Core.Path.{_≡_, refl, sym, ap, ap₂, _∙_}
+use Rattle.table.proofs.Accepted.{accepted-right}
+use Rattle.layer.specs.Start.{startCall}
+use Rattle.layer.specs.Step.{step}
 use Rattle.layer.proofs.starting.start.Tie as tie
-use Rattle.layer.proofs.starting.start.Reads as reads
-use Rattle.layer.proofs.starting.start.Lts as lts
 use Rattle.layer.proofs.starting.start_accepted.Reads as start-accepted-reads
 use Rattle.table.proofs.check.Reads as check-reads
 
--- src/starting.rt:32:9
 check-requires : tie.Need-check-requires
 check-requires c κs = search needs
 
--- src/starting.rt:34:27
 enum-known-verdict : tie.Need-enum-known-verdict
 enum-known-verdict c = search needs
 
--- src/starting.rt:34:33
 start-accepted-requires : tie.Need-start-accepted-requires
-start-accepted-requires c κs = ?
+start-accepted-requires c κs = accepted-right (c .before .before .before .before .before .before .before .args .t .now) _ (sym (c .before .before .before .before .check .ensures) ∙ c .before .before .verdict .given .1)
 
--- src/starting.rt:35:33
 enum-told : tie.Need-enum-told
 enum-told c = search needs
 
--- src/starting.rt:36:34
 enum-told-2 : tie.Need-enum-told-2
 enum-told-2 c = search needs
 
--- src/starting.rt:37:36
 enum-told-3 : tie.Need-enum-told-3
 enum-told-3 c = search needs
 
--- src/starting.rt:29:1
 same-length : tie.Need-same-length
 same-length c = search needs
 
--- src/starting.rt:29:1
 returns : tie.Need-returns
-returns c = ?
+unfolding step startCall
+returns c = rw (sym (c .before .before .before .before .before .before .before .check .ensures) ∙ c .before .before .before .before .before .verdict .given .1) (c .before .before .start-accepted .ensures)
 
--- src/starting.rt:29:1
 returns-2 : tie.Need-returns-2
-returns-2 c = ?
+unfolding step startCall
+returns-2 c = rw (sym (c .before .before .check .ensures) ∙ c .enum-told .given .1)
 
--- src/starting.rt:29:1
 returns-3 : tie.Need-returns-3
-returns-3 c = ?
+unfolding step startCall
+returns-3 c = rw (sym (c .before .before .check .ensures) ∙ c .enum-told2 .given .1)
 
--- src/starting.rt:29:1
 returns-4 : tie.Need-returns-4
-returns-4 c = ?
+unfolding step startCall
+returns-4 c = rw (sym (c .before .before .check .ensures) ∙ c .enum-told3 .given .1)
 
 pub start-spec : {M : Type 1} → statement M
 start-spec =

@@ -1,33 +1,48 @@
+-- `layer::starting::start_accepted` meets its contract.
+-- Assumes nothing.
 use borrow.Author.Needs.{needs}
+use mathlib.Core.Path.{_≡_, refl, sym, ap, ap₂, _∙_}
+use mathlib.Core.List.{List, [], _++_}
+use Prim.Native.Nat.{ℕ, _≤_}
+use native.Mathlib.Omega.{arith}
+use borrow.Author.Tests.{lt-ltb, le-leb, lt-leb}
+use lib.ListN.{length, take, drop}
+use lib.Seq.{length-take-le}
+use Rattle.layer.specs.declared.Answer.the-variants.{Done}
+use Rattle.layer.specs.Answers.{Outcome, outcome}
+use Rattle.layer.proofs.Fresh.{front-replaced, started-length}
+use Rattle.layer.specs.Start.{started}
 use Rattle.layer.proofs.starting.start_accepted.Statement.{statement}
 use Rattle.layer.proofs.starting.start_accepted.Tie as tie
-use Rattle.layer.proofs.starting.start_accepted.Reads as reads
-use Rattle.layer.proofs.starting.start_accepted.Lts as lts
 use Rattle.layer.proofs.starting.write_all.Reads as write-all-reads
 
--- src/starting.rt:46:9
 returns : tie.Need-returns
-returns c = ?
+returns c = rw (lt-leb _ _ (c .if1 .taken))
 
--- src/starting.rt:48:21
 slice-relend-prefix-write-all : tie.Need-slice-relend-prefix-write-all
 slice-relend-prefix-write-all c = search needs
 
--- src/starting.rt:48:21
 slice-aggregate-write-all : tie.Need-slice-aggregate-write-all
-slice-aggregate-write-all c = ?
+slice-aggregate-write-all c =
+    let long : 8192 ≤ length (c .before .before .before .before .args .m .now) = omega (arith, c .before .if1 .left) in
+    let same : length (take 8192 (c .before .before .before .before .args .m .now)) ≡ 8192 = length-take-le 8192 (c .before .before .before .before .args .m .now) long in
+    sym same
 
--- src/starting.rt:48:5
 write-all-requires : tie.Need-write-all-requires
-write-all-requires c κs = ?
+write-all-requires c κs =
+    let long : 8192 ≤ length (c .before .before .before .before .args .m .now) = omega (arith, c .before .if1 .left) in
+    let same : length (take 8192 (c .before .before .before .before .args .m .now)) ≡ 8192 = length-take-le 8192 (c .before .before .before .before .args .m .now) long in
+    (c .before .before .before .before .pre, same)
 
--- src/starting.rt:41:1
 same-length : tie.Need-same-length
 same-length c = search needs
 
--- src/starting.rt:41:1
 returns-2 : tie.Need-returns-2
-returns-2 c = ?
+returns-2 c =
+    rw (le-leb _ _ (c .before .before .before .before .if1 .left))
+    (ap (λ (m : List ℕ). outcome (Done 0) m [])
+    (ap (λ (f : List ℕ). f ++ drop 8192 (c .before .before .before .before .before .before .before .args .m .now)) (c .before .before .write-all .ensures)
+    ∙ front-replaced (started (c .before .before .before .before .before .before .before .args .t .now) (c .before .before .before .before .before .before .before .args .c)) (c .before .before .before .before .before .before .before .args .m .now) (started-length (c .before .before .before .before .before .before .before .args .t .now) (c .before .before .before .before .before .before .before .args .c) (c .before .before .before .before .before .before .before .pre))))
 
 pub start-accepted-spec : {M : Type 1} → statement M
 start-accepted-spec =

@@ -1,57 +1,57 @@
+-- `layer::starting::start_ipdus` meets its contract. The invariant: the turns of the I-PDUs passed.
+-- Assumes nothing.
 use Rattle.layer.proofs.starting.start_ipdus.Statement.{statement}
 use Rattle.layer.proofs.starting.start_ipdus.Tie as tie
-use Rattle.layer.proofs.starting.start_ipdus.Reads as reads
-use Rattle.layer.proofs.starting.start_ipdus.Lts as lts
 use Rattle.layer.proofs.starting.first_timer.Reads as first-timer-reads
+use mathlib.Core.Path.{_≡_, refl, sym, ap, ap₂, _∙_}
+use Prim.Native.Nat.{ℕ, suc, _-_, _≤_}
+use native.Mathlib.Numerals.{unary-clauses}
+use native.Mathlib.Omega.{arith}
+use borrow.Author.Needs.{needs}
+use lib.ListN.{length}
+use Rattle.memory.specs.Search.{fold}
+use Rattle.layer.specs.Start.{startIpdu}
 use Rattle.layer.proofs.starting.idle.Reads as idle-reads
 use Rattle.state.proofs.set_ipdu_state.Reads as set-ipdu-state-reads
 use Rattle.table.proofs.decode_ipdu.Reads as decode-ipdu-reads
 
 abbrev Inv-loop : tie.InvT-loop
-Inv-loop t m₀ n k₀ m k = ?
+Inv-loop t m₀ n k₀ m k = (k ≤ n) × (m ≡ fold k (startIpdu t) m₀) × (length m ≡ length m₀)
 
 abbrev μ-loop : tie.MeasureT-loop
-μ-loop t m₀ n k₀ m k = ?
+μ-loop t m₀ n k₀ m k = n - k
 
--- src/starting.rt:82:5
 loop-holds : tie.Need-loop-holds Inv-loop μ-loop
-loop-holds c = ?
+loop-holds c = (search needs, refl, refl)
 
--- src/starting.rt:83:13
 decode-ipdu-requires : tie.Need-decode-ipdu-requires Inv-loop μ-loop
-decode-ipdu-requires c κs = ?
+decode-ipdu-requires c κs = omega (arith, c .loop-test .taken, c .before .before .before .before .pre .0 .long)
 
--- src/starting.rt:85:13
 first-timer-requires : tie.Need-first-timer-requires Inv-loop μ-loop
-first-timer-requires c κs = ?
+first-timer-requires c κs = search needs
 
--- src/starting.rt:86:49
 idle-requires : tie.Need-idle-requires Inv-loop μ-loop
-idle-requires c κs = ?
+idle-requires c κs = search needs
 
--- src/starting.rt:86:9
 set-ipdu-state-requires : tie.Need-set-ipdu-state-requires Inv-loop μ-loop
-set-ipdu-state-requires c κs = ?
+set-ipdu-state-requires c κs = omega (arith, c .before .before .before .before .loop-test .taken, c .before .before .before .before .before .before .before .before .pre .0 .ipdus, c .before .before .before .before .before .before .before .before .pre .1, c .before .before .before .before .before .loop .inv .2)
 
--- src/starting.rt:87:9
 add-k : tie.Need-add-k Inv-loop μ-loop
-add-k c = ?
+add-k c = omega (arith, c .before .before .before .before .before .before .before .loop-test .taken, c .before .before .before .before .before .before .before .before .before .before .before .pre .0 .ipdus)
 
--- src/starting.rt:82:5
 loop-less : tie.Need-loop-less Inv-loop μ-loop
-loop-less c = ?
+loop-less c = omega (arith, c .before .before .before .before .before .before .before .loop-test .taken)
 
--- src/starting.rt:82:5
 loop-again : tie.Need-loop-again Inv-loop μ-loop
-loop-again c = ?
+loop-again c = (omega (arith, c .before .before .before .before .before .before .before .loop-test .taken), simp unary-clauses (rw (c .before .before .set-ipdu-state .ensures, c .before .before .before .idle .ensures, c .before .before .before .before .before .first-timer .ensures, c .before .before .before .before .before .before .decode-ipdu .ensures, c .before .before .before .before .before .before .before .before .loop .inv .1)), search needs)
 
--- src/starting.rt:75:1
 same-length : tie.Need-same-length Inv-loop μ-loop
-same-length c = ?
+same-length c = c .before .loop .inv .2
 
--- src/starting.rt:75:1
 returns : tie.Need-returns Inv-loop μ-loop
-returns c = ?
+returns c =
+    let end : c .before .loop .k ≡ c .before .before .before .before .args .c .ipdus = omega (arith, c .before .loop .inv .0, c .loop-test .left) in
+    rw end at (c .before .loop .inv .1)
 
 pub start-ipdus-spec : {M : Type 1} → statement M
 start-ipdus-spec =

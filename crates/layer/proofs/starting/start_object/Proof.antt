@@ -1,55 +1,56 @@
+-- `layer::starting::start_object` meets its contract, by the direction.
+-- Assumes nothing.
 use borrow.Author.Needs.{needs}
 use Rattle.layer.proofs.starting.start_object.Statement.{statement}
 use Rattle.layer.proofs.starting.start_object.Tie as tie
-use Rattle.layer.proofs.starting.start_object.Reads as reads
-use Rattle.layer.proofs.starting.start_object.Lts as lts
+use mathlib.Core.Path.{_≡_, refl, sym, ap, ap₂, _∙_}
+use mathlib.Core.List.{List}
+use Prim.Native.Nat.{ℕ}
+use native.Mathlib.Omega.{arith}
+use Rattle.table.specs.declared.Direction.{Direction}
+use Rattle.state.specs.declared.ObjectState.{ObjectState}
+use Rattle.state.specs.Layout.{withObjectState}
+use Rattle.layer.specs.Start.{startAs}
 use Rattle.layer.proofs.starting.unused.Reads as unused-reads
 use Rattle.message.proofs.pack.Reads as pack-reads
 use Rattle.state.proofs.set_object_state.Reads as set-object-state-reads
 
--- src/starting.rt:116:27
 enum-told : tie.Need-enum-told
 enum-told c = search needs
 
--- src/starting.rt:116:13
 pack-requires : tie.Need-pack-requires
 pack-requires c κs = search needs
 
--- src/starting.rt:117:48
 unused-requires : tie.Need-unused-requires
 unused-requires c κs = search needs
 
--- src/starting.rt:117:13
 set-object-state-requires : tie.Need-set-object-state-requires
 set-object-state-requires c κs = search needs
 
--- src/starting.rt:120:37
 enum-told-2 : tie.Need-enum-told-2
 enum-told-2 c = search needs
 
--- src/starting.rt:120:48
 unused-requires-2 : tie.Need-unused-requires-2
 unused-requires-2 c κs = search needs
 
--- src/starting.rt:120:13
 set-object-state-requires-2 : tie.Need-set-object-state-requires-2
 set-object-state-requires-2 c κs = search needs
 
--- src/starting.rt:108:1
 same-length : tie.Need-same-length
 same-length c = search needs
 
--- src/starting.rt:108:1
 returns : tie.Need-returns
-returns c = ?
+returns c =
+    c .before .before .set-object-state .ensures ∙ ap₂ (λ (n : List ℕ) (s : ObjectState). withObjectState n (c .before .before .before .before .before .before .before .before .before .before .before .before .args .number .0) s) (c .before .before .before .before .before .before .before .pack .ensures) (c .before .before .before .unused .ensures)
+    ∙ sym (ap (λ (d : Direction). startAs d (c .before .before .before .before .before .before .before .before .before .before .before .before .args .o) (c .before .before .before .before .before .before .before .before .before .before .before .before .args .number .0) (c .before .before .before .before .before .before .before .before .before .before .before .before .args .first) (c .before .before .before .before .before .before .before .before .before .before .before .before .args .m .now)) (c .before .before .before .before .before .before .before .before .before .enum-told .given .1))
 
--- src/starting.rt:108:1
 same-length-2 : tie.Need-same-length-2
 same-length-2 c = search needs
 
--- src/starting.rt:108:1
 returns-2 : tie.Need-returns-2
-returns-2 c = ?
+returns-2 c =
+    c .before .before .set-object-state2 .ensures ∙ ap (λ (s : ObjectState). withObjectState (c .before .before .before .before .before .before .before .before .args .m .now) (c .before .before .before .before .before .before .before .before .args .number .0) s) (c .before .before .before .unused2 .ensures)
+    ∙ sym (ap (λ (d : Direction). startAs d (c .before .before .before .before .before .before .before .before .args .o) (c .before .before .before .before .before .before .before .before .args .number .0) (c .before .before .before .before .before .before .before .before .args .first) (c .before .before .before .before .before .before .before .before .args .m .now)) (c .before .before .before .before .before .enum-told2 .given .1))
 
 pub start-object-spec : {M : Type 1} → statement M
 start-object-spec =

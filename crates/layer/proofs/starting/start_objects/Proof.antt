@@ -1,51 +1,68 @@
+-- `layer::starting::start_objects` meets its contract. The invariant: the turns of the objects passed, and their depths.
+-- Assumes nothing.
 use Rattle.layer.proofs.starting.start_objects.Statement.{statement}
+use mathlib.Core.Path.{_≡_, refl, sym, ap, ap₂, _∙_}
+use Prim.Native.Nat.{ℕ, suc, _+_, _-_, _≤_}
+use native.Mathlib.Numerals.{unary-clauses}
+use native.Mathlib.Omega.{arith}
+use borrow.Author.Needs.{needs}
+use lib.ListN.{length}
+use Rattle.memory.specs.Search.{sum, fold}
+use Rattle.table.specs.declared.Object.{Object}
+use Rattle.table.specs.Records.{objectRecord}
+use Rattle.table.specs.Decode.{objectOf}
+use Rattle.table.proofs.Accepted.{usable}
+use Rattle.state.proofs.Turns.{depth-sum}
+use Rattle.message.proofs.Kept.{right-placed}
+use Rattle.layer.specs.Start.{startObject}
 use Rattle.layer.proofs.starting.start_objects.Tie as tie
-use Rattle.layer.proofs.starting.start_objects.Reads as reads
-use Rattle.layer.proofs.starting.start_objects.Lts as lts
 use Rattle.layer.proofs.starting.start_object.Reads as start-object-reads
 use Rattle.table.proofs.decode_object.Reads as decode-object-reads
 
 abbrev Inv-loop : tie.InvT-loop
-Inv-loop t c m₀ n first₀ i₀ m first i = ?
+Inv-loop t c m₀ n first₀ i₀ m first i = (i ≤ n) × (m ≡ fold i (startObject t c) m₀) × (length m ≡ length m₀) × (first ≡ sum i (λ j. objectRecord t (c .ipdus) j .depth))
 
 abbrev μ-loop : tie.MeasureT-loop
-μ-loop t c m₀ n first₀ i₀ m first i = ?
+μ-loop t c m₀ n first₀ i₀ m first i = n - i
 
--- src/starting.rt:99:5
 loop-holds : tie.Need-loop-holds Inv-loop μ-loop
-loop-holds c = ?
+loop-holds c = (search needs, refl, refl, refl)
 
--- src/starting.rt:100:13
 decode-object-requires : tie.Need-decode-object-requires Inv-loop μ-loop
-decode-object-requires c κs = ?
+decode-object-requires c κs = (omega (arith, c .loop-test .taken, c .before .before .before .before .pre .0 .shape .long), usable (c .before .before .before .before .args .t .now) (c .before .before .before .before .args .c) (c .before .before .before .before .pre .0) (c .before .loop .i) (c .loop-test .taken) .start)
 
--- src/starting.rt:101:9
 start-object-requires : tie.Need-start-object-requires Inv-loop μ-loop
-start-object-requires c κs = ?
+start-object-requires c κs = rw (c .before .decode-object .ensures) (right-placed (c .before .before .before .before .before .before .args .t .now) (c .before .before .before .before .before .before .args .c) (c .before .before .before .loop .m) (c .before .before .before .before .before .before .pre .0) (omega (arith, c .before .before .before .before .before .before .pre .1, c .before .before .before .loop .inv .2)) (c .before .before .before .loop .i) (c .before .before .loop-test .taken), omega (arith, c .before .before .loop-test .taken, c .before .before .before .before .before .before .pre .0 .shape .objects, c .before .before .before .before .before .before .pre .1, c .before .before .before .loop .inv .2))
 
--- src/starting.rt:102:9
 add-first : tie.Need-add-first Inv-loop μ-loop
-add-first c = ?
+unfolding objectOf
+add-first c =
+    let low = depth-sum (c .before .before .before .before .before .before .before .before .before .before .args .t .now) (c .before .before .before .before .before .before .before .before .before .before .args .c) (c .before .before .before .before .before .before .before .before .before .before .pre .0) (c .before .before .before .before .before .before .before .loop .i) (c .before .before .before .before .before .before .loop-test .taken) in
+    let here = ap (λ (o : Object). o .depth) (c .before .before .before .before .before .decode-object .ensures) in
+    omega (arith, low, here, c .before .before .before .before .before .before .before .loop .inv .3)
 
--- src/starting.rt:103:9
 add-i : tie.Need-add-i Inv-loop μ-loop
-add-i c = ?
+add-i c = omega (arith, c .before .before .before .before .before .before .loop-test .taken, c .before .before .before .before .before .before .before .before .before .before .pre .0 .shape .objects)
 
--- src/starting.rt:99:5
 loop-less : tie.Need-loop-less Inv-loop μ-loop
-loop-less c = ?
+loop-less c = omega (arith, c .before .before .before .before .before .before .loop-test .taken)
 
--- src/starting.rt:99:5
 loop-again : tie.Need-loop-again Inv-loop μ-loop
-loop-again c = ?
+unfolding objectOf
+loop-again c = (
+  omega (arith, c .before .before .before .before .before .before .loop-test .taken),
+  simp unary-clauses (rw (c .before .before .before .start-object .ensures, c .before .before .before .before .before .decode-object .ensures, c .before .before .before .before .before .before .before .loop .inv .3, c .before .before .before .before .before .before .before .loop .inv .1)),
+  search needs,
+  simp unary-clauses (ap₂ _+_ (c .before .before .before .before .before .before .before .loop .inv .3) (ap (λ (o : Object). o .depth) (c .before .before .before .before .before .decode-object .ensures))),
+)
 
--- src/starting.rt:91:1
 same-length : tie.Need-same-length Inv-loop μ-loop
-same-length c = ?
+same-length c = c .before .loop .inv .2
 
--- src/starting.rt:91:1
 returns : tie.Need-returns Inv-loop μ-loop
-returns c = ?
+returns c =
+    let end : c .before .loop .i ≡ c .before .before .before .before .args .c .objects = omega (arith, c .before .loop .inv .0, c .loop-test .left) in
+    rw end at (c .before .loop .inv .1)
 
 pub start-objects-spec : {M : Type 1} → statement M
 start-objects-spec =

@@ -1,31 +1,33 @@
+-- `layer::starting::write_all` meets its contract.
+-- Assumes nothing.
 use borrow.Author.Needs.{needs}
 use Rattle.layer.proofs.starting.write_all.Statement.{statement}
 use Rattle.layer.proofs.starting.write_all.Tie as tie
-use Rattle.layer.proofs.starting.write_all.Reads as reads
-use Rattle.layer.proofs.starting.write_all.Lts as lts
-use Rattle.layer.proofs.starting.clear.Reads as clear-reads
+use mathlib.Core.Path.{_≡_, refl, sym, ap, ap₂, _∙_}
+use Rattle.memory.specs.Search.{fold}
+use Rattle.layer.proofs.Fresh.{cleared}
+use Rattle.layer.specs.Start.{startIpdu, startObject, started}
 use Rattle.layer.proofs.starting.start_ipdus.Reads as start-ipdus-reads
 use Rattle.layer.proofs.starting.start_objects.Reads as start-objects-reads
+use Rattle.memory.proofs.clear.Reads as clear-reads
 
--- src/starting.rt:58:5
 clear-requires : tie.Need-clear-requires
 clear-requires c κs = search needs
 
--- src/starting.rt:59:5
 start-ipdus-requires : tie.Need-start-ipdus-requires
 start-ipdus-requires c κs = search needs
 
--- src/starting.rt:60:5
 start-objects-requires : tie.Need-start-objects-requires
 start-objects-requires c κs = search needs
 
--- src/starting.rt:53:1
 same-length : tie.Need-same-length
 same-length c = search needs
 
--- src/starting.rt:53:1
 returns : tie.Need-returns
-returns c = ?
+unfolding started
+returns c =
+    c .before .before .start-objects .ensures ∙ ap (fold (c .before .before .before .before .before .before .before .before .before .before .before .before .before .before .args .c .objects) (startObject (c .before .before .before .before .before .before .before .before .before .before .before .before .before .before .args .t .now) (c .before .before .before .before .before .before .before .before .before .before .before .before .before .before .args .c)))
+    (c .before .before .before .before .before .before .start-ipdus .ensures ∙ ap (fold (c .before .before .before .before .before .before .before .before .before .before .before .before .before .before .args .c .ipdus) (startIpdu (c .before .before .before .before .before .before .before .before .before .before .before .before .before .before .args .t .now))) (c .before .before .before .before .before .before .before .before .before .before .clear .ensures ∙ cleared _ (c .before .before .before .before .before .before .before .before .before .before .before .before .before .before .pre .1)))
 
 pub write-all-spec : {M : Type 1} → statement M
 write-all-spec =

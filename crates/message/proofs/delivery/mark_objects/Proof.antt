@@ -8,7 +8,6 @@ use borrow.Author.Needs.{needs}
 use lib.ListN.{length}
 use Rattle.memory.specs.Search.{fold}
 use Rattle.message.specs.Delivery.{markTurn, markObjects}
-use Rattle.message.proofs.Kept.{ready-mark}
 use Rattle.message.proofs.delivery.mark_objects.Statement.{statement}
 use Rattle.message.proofs.delivery.mark_objects.Tie as tie
 use Rattle.message.proofs.delivery.mark_turn.Reads as mark-turn-reads
@@ -23,12 +22,10 @@ loop-holds : tie.Need-loop-holds Inv-loop μ-loop
 loop-holds c = (search needs, refl, refl)
 
 mark-turn-requires : tie.Need-mark-turn-requires Inv-loop μ-loop
-mark-turn-requires c κs =
-    let a = c .before .before .before .before .before .args in
-    rw (c .before .before .loop .inv .1) (ready-mark (a .t .now) (a .c) (c .before .before .before .before .before .args .ipdu .0) (c .before .before .before .before .before .args .mark) (c .before .before .loop .i) (c .before .before .before .before .before .pre .1) (c .before .before .loop .inv .0) (a .m .now) (c .before .before .before .before .before .pre .0), c .before .loop-test .taken)
+mark-turn-requires c κs = (c .before .before .before .before .before .pre .0, (omega (arith, c .before .before .loop .inv .2, c .before .before .before .before .before .pre .1), c .before .loop-test .taken))
 
 add-i : tie.Need-add-i Inv-loop μ-loop
-add-i c = omega (arith, c .before .before .before .before .loop-test .taken, c .before .before .before .before .before .before .before .before .pre .0 .right .shape .objects)
+add-i c = omega (arith, c .before .before .before .before .loop-test .taken, c .before .before .before .before .before .before .before .before .pre .0 .objects)
 
 loop-less : tie.Need-loop-less Inv-loop μ-loop
 loop-less c = omega (arith, c .before .before .before .before .loop-test .taken)

@@ -15,6 +15,7 @@ use Rattle.state.proofs.set_object_state.Reads as set-object-state-reads
 
 object-state-requires : tie.Need-object-state-requires
 object-state-requires c κs = search (needs, c .before .before .pre .0)
+
 passes-requires : tie.Need-passes-requires
 passes-requires c κs = search needs
 
@@ -22,19 +23,23 @@ place-at-requires : tie.Need-place-at-requires
 place-at-requires c κs =
     let r = queue-room (c .before .before .before .before .before .before .before .args .o .depth) (c .before .before .before .before .before .before .before .args .number .0) (c .before .before .before .before .before .before .before .args .m .now) (c .before .before .before .before .before .before .before .pre .0) in
     rw (c .before .before .before .before .object-state .ensures) (r .queue, r .head, r .count)
+
 enqueue-requires : tie.Need-enqueue-requires
-enqueue-requires c κs =     rw (c .place-at .ensures, c .before .before .before .before .before .object-state .ensures) ((queue-room (c .before .before .before .before .before .before .before .before .args .o .depth) (c .before .before .before .before .before .before .before .before .args .number .0) (c .before .before .before .before .before .before .before .before .args .m .now) (c .before .before .before .before .before .before .before .before .pre .0)) .room _ (c .before .before .before .before .before .before .before .before .pre .0 .count))
+enqueue-requires c κs = rw (c .place-at .ensures, c .before .before .before .before .before .object-state .ensures) ((queue-room (c .before .before .before .before .before .before .before .before .args .o .depth) (c .before .before .before .before .before .before .before .before .args .number .0) (c .before .before .before .before .before .before .before .before .args .m .now) (c .before .before .before .before .before .before .before .before .pre .0)) .room _ (c .before .before .before .before .before .before .before .before .pre .0 .count))
+
 delivered-requires : tie.Need-delivered-requires
 delivered-requires c κs = search needs
 
 set-object-state-requires : tie.Need-set-object-state-requires
 set-object-state-requires c κs = search (needs, c .before .before .before .before .before .before .before .before .before .before .before .before .before .pre .0)
+
 same-length : tie.Need-same-length
 same-length c = search needs
 
 returns : tie.Need-returns
 unfolding deliver
 returns c = rw (c .before .before .set-object-state .ensures, c .before .before .before .before .before .before .before .enqueue .ensures, c .before .before .before .delivered .ensures, c .before .before .before .before .before .before .before .before .place-at .ensures, c .before .before .before .before .before .before .before .before .before .before .before .before .passes .ensures, c .before .before .before .before .before .before .before .before .before .before .before .before .before .object-state .ensures)
+
 pub deliver-spec : {M : Type 1} → statement M
 deliver-spec =
     tie.close

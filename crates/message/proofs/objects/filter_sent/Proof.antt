@@ -26,6 +26,7 @@ same-length c = search needs
 
 returns : tie.Need-returns
 returns c = (rw (c .before .before .before .before .before .passes .ensures, c .before .before .before .before .before .before .object-state .ensures), rw (c .before .before .set-object-state .ensures, c .before .before .before .filtered .ensures, c .before .before .before .before .before .before .object-state .ensures))
+
 pub filter-sent-spec : {M : Type 1} → statement M
 filter-sent-spec =
     tie.close

@@ -25,12 +25,14 @@ same-length c = search needs
 returns : tie.Need-returns
 unfolding initialise pack
 returns c = rw (c .before .before .before .before .enum-told .given .1) (c .before .before .initialise-send .ensures)
+
 same-length-2 : tie.Need-same-length-2
 same-length-2 c = search needs
 
 returns-2 : tie.Need-returns-2
 unfolding initialise
 returns-2 c = rw (c .before .before .before .before .enum-told2 .given .1) (c .before .before .initialise-receive .ensures)
+
 pub initialise-spec : {M : Type 1} → statement M
 initialise-spec =
     tie.close

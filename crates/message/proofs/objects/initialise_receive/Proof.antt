@@ -17,6 +17,7 @@ same-length c = search needs
 
 returns : tie.Need-returns
 returns c = rw (c .before .before .set-object-state .ensures, c .before .before .before .before .object-state .ensures)
+
 pub initialise-receive-spec : {M : Type 1} → statement M
 initialise-receive-spec =
     tie.close (tie.spec object-state-requires set-object-state-requires same-length returns)

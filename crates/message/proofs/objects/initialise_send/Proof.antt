@@ -21,6 +21,7 @@ same-length c = search needs
 
 returns : tie.Need-returns
 returns c = rw (c .before .before .set-object-state .ensures, c .before .before .before .before .before .before .pack .ensures, c .before .before .before .before .before .before .before .before .object-state .ensures)
+
 pub initialise-send-spec : {M : Type 1} → statement M
 initialise-send-spec =
     tie.close

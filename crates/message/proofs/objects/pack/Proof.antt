@@ -11,6 +11,7 @@ use Rattle.bits.proofs.pack_slot.Reads as pack-slot-reads
 returns : tie.Need-returns
 unfolding pack
 returns c = rw (eq-eqb _ _ (c .if1 .taken))
+
 cast-pack-slot : tie.Need-cast-pack-slot
 cast-pack-slot c = search needs
 
@@ -24,12 +25,14 @@ pack-slot-requires : tie.Need-pack-slot-requires
 pack-slot-requires c κs =
     let low = c .before .before .before .pre .ipdu (ne-eqb _ _ (c .before .if1 .left)) in
     (omega (arith, low, c .before .before .before .pre .long), c .before .before .before .pre .slot)
+
 same-length : tie.Need-same-length
 same-length c = search needs
 
 returns-2 : tie.Need-returns-2
 unfolding pack
 returns-2 c = rw (ne-eqb _ _ (c .before .before .before .before .if1 .left)) (c .before .before .pack-slot .ensures)
+
 pub pack-spec : {M : Type 1} → statement M
 pack-spec =
     tie.close

@@ -17,11 +17,13 @@ add-around : tie.Need-add-around
 add-around c =
     let r = queue-room (c .before .before .before .before .args .depth) (c .before .before .before .before .args .number .0) (c .before .before .before .before .args .m .now) (c .before .before .before .before .pre .0) in
     rw (c .before .object-state .ensures) (omega (arith, r .head))
+
 around-requires : tie.Need-around-requires
 around-requires c κs = search needs
 
 sub-next : tie.Need-sub-next
 sub-next c = rw (c .before .before .before .object-state .ensures) (omega (arith, c .before .before .before .before .before .before .pre .1))
+
 set-object-state-requires : tie.Need-set-object-state-requires
 set-object-state-requires c κs = search needs
 
@@ -31,6 +33,7 @@ same-length c = search needs
 returns : tie.Need-returns
 unfolding take
 returns c = rw (c .before .before .set-object-state .ensures, c .before .before .before .before .before .around .ensures, c .before .before .before .before .before .before .before .object-state .ensures)
+
 pub take-spec : {M : Type 1} → statement M
 take-spec =
     tie.close

@@ -21,6 +21,7 @@ unpack-slot-requires c κs = search needs
 returns : tie.Need-returns
 unfolding unpack
 returns c = c .unpack-slot .ensures
+
 pub unpack-spec : {M : Type 1} → statement M
 unpack-spec =
     tie.close (tie.spec cast-k mul-unpack-slot add-unpack-slot unpack-slot-requires returns)
