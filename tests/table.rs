@@ -6,7 +6,7 @@
 
 #[repr(C)]
 #[derive(Clone, Copy, PartialEq, Debug)]
-struct Answer { number: u32, value: u32 }
+pub struct Answer { pub number: u32, pub value: u32 }
 #[cfg(not(own))] extern "C" { fn birnenschloss_check(table: *const u8, len: usize) -> Answer; }
 
 fn library(table: &[u8]) -> Answer {
@@ -24,7 +24,7 @@ fn two(bytes: &[u8], at: usize) -> usize { bytes[at] as usize + 256 * bytes[at +
 fn four(bytes: &[u8], at: usize) -> usize { two(bytes, at) + 65536 * two(bytes, at + 2) }
 
 /// None where the table is accepted, else the place of the first wrong record.
-fn place(table: &[u8]) -> Option<u32> {
+pub fn place(table: &[u8]) -> Option<u32> {
     if !header_right(table) { return Some(65535); }
     let (front, back) = table[16..].split_at(16 * two(table, 0));
     let ipdus: Vec<&[u8]> = front.chunks(16).collect();
@@ -110,18 +110,18 @@ fn walk(start: u8, size: u8, order: u8, length: u8) -> Option<Vec<usize>> {
 
 // ---- The comparison ----
 /// The state of the random numbers, and the counts: accepted, header, I-PDU, object.
-struct Run { random: u64, counts: [u64; 4] }
+pub struct Run { pub random: u64, pub counts: [u64; 4] }
 impl Run {
     /// A number below n (xorshift).
-    fn below(&mut self, n: usize) -> usize {
+    pub fn below(&mut self, n: usize) -> usize {
         self.random ^= self.random << 13;
         self.random ^= self.random >> 7;
         self.random ^= self.random << 17;
         ((self.random >> 20) % n as u64) as usize
     }
-    fn pick<T: Copy>(&mut self, list: &[T]) -> T { list[self.below(list.len())] }
+    pub fn pick<T: Copy>(&mut self, list: &[T]) -> T { list[self.below(list.len())] }
     /// Stops at the first difference; gives the place that both have found.
-    fn compare(&mut self, table: &[u8]) -> Option<u32> {
+    pub fn compare(&mut self, table: &[u8]) -> Option<u32> {
         let (found, theirs) = (place(table), library(table));
         let ours = answer(found);
         if theirs != ours { fail(table, &format!("document {ours:?}, library {theirs:?}")); }
@@ -144,25 +144,25 @@ fn fail(table: &[u8], what: &str) -> ! {
 
 // ---- Right tables ----
 const TIMES: [u16; 5] = [1, 2, 255, 256, 65535];
-const WORDS: [u32; 11] = [0, 1, 2, 3, 254, 255, 256, 257, 65536, 0x8000_0000, 0xFFFF_FFFF];
+pub const WORDS: [u32; 11] = [0, 1, 2, 3, 254, 255, 256, 257, 65536, 0x8000_0000, 0xFFFF_FFFF];
 
-fn join(ipdus: &[[u8; 16]], objects: &[[u8; 32]]) -> Vec<u8> {
+pub fn join(ipdus: &[[u8; 16]], objects: &[[u8; 32]]) -> Vec<u8> {
     let from = 16 + 16 * ipdus.len();
     let header = [ipdus.len(), objects.len(), 16, from, from + 32 * objects.len(), 0, 0, 0];
     [header.map(|n| (n as u16).to_le_bytes()).concat(), ipdus.concat(), objects.concat()].concat()
 }
 
 /// The times are period, offset, minimum delay, deadline and first deadline.
-fn ipdu(direction: u8, length: u8, mode: u8, times: [u16; 5]) -> [u8; 16] {
+pub fn ipdu(direction: u8, length: u8, mode: u8, times: [u16; 5]) -> [u8; 16] {
     let bytes = [&[direction, length, mode, 0], &times.map(u16::to_le_bytes).concat()[..], &[0, 0]];
     std::array::from_fn(|i| bytes.concat()[i])
 }
 
 /// The first bytes of the record, in their order: kind, I-PDU, sender, start, size, order, ..
-fn object(bytes: &[u8]) -> [u8; 32] { std::array::from_fn(|i| *bytes.get(i).unwrap_or(&0)) }
+pub fn object(bytes: &[u8]) -> [u8; 32] { std::array::from_fn(|i| *bytes.get(i).unwrap_or(&0)) }
 
 /// The words are the initial value and the two constants.
-fn set_filter(r: &mut [u8; 32], filter: u8, words: [u32; 3]) {
+pub fn set_filter(r: &mut [u8; 32], filter: u8, words: [u32; 3]) {
     r[8] = filter;
     r[12..24].copy_from_slice(&words.map(u32::to_le_bytes).concat());
 }
@@ -194,7 +194,7 @@ fn right_bits(run: &mut Run, taken: &[bool; 64], length: u8) -> Option<[u8; 3]> 
     Some([start, run.pick(&[1, 1 + run.random as u8 % room, room]), order])
 }
 
-fn right_table(run: &mut Run, ipdus: usize, objects: usize) -> Vec<u8> {
+pub fn right_table(run: &mut Run, ipdus: usize, objects: usize) -> Vec<u8> {
     let ipdus: Vec<[u8; 16]> = (0..ipdus).map(|_| right_ipdu(run)).collect();
     let sends = run.pick(&[0, 1, 5, 9, 10]);
     let kinds: Vec<u8> = (0..objects).map(|_| 2 - (run.below(10) < sends) as u8).collect();

@@ -1,7 +1,21 @@
 // The proved libraries under C names, for callers in C and Rust: the benchmarks and the tests link it. The functions on a slot
 // check nothing: whoever calls them from outside has to meet their `requires`.
+mod calls;
+
 use bits::BitSize;
 use bits::Order;
+pub use calls::birnenschloss_clear_marks;
+pub use calls::birnenschloss_confirm;
+pub use calls::birnenschloss_indication;
+pub use calls::birnenschloss_initialise;
+pub use calls::birnenschloss_marks;
+pub use calls::birnenschloss_receive;
+pub use calls::birnenschloss_send;
+pub use calls::birnenschloss_start;
+pub use calls::birnenschloss_start_periodic;
+pub use calls::birnenschloss_status;
+pub use calls::birnenschloss_stop;
+pub use calls::birnenschloss_stop_periodic;
 ghost use mathlib.Core.Path.{_≡_};
 ghost use Prim.Native.Nat.{_≤_, _<_};
 ghost use lib.ListN.{length};

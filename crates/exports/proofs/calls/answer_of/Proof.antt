@@ -1,0 +1,18 @@
+-- `exports::calls::answer_of` meets its contract.
+-- Assumes nothing.
+use borrow.Author.Needs.{needs}
+use Rattle.exports.proofs.calls.answer_of.Statement.{statement}
+use Rattle.exports.proofs.calls.answer_of.Tie as tie
+use Rattle.layer.proofs.number_of.Reads as number-of-reads
+use Rattle.layer.proofs.value_of.Reads as value-of-reads
+
+number-of-requires : tie.Need-number-of-requires
+number-of-requires c κs = search needs
+
+value-of-requires : tie.Need-value-of-requires
+value-of-requires c κs = search needs
+
+returns : tie.Need-returns
+returns c = rw (c .value-of .ensures, c .before .number-of .ensures)
+pub answer-of-spec : {M : Type 1} → statement M
+answer-of-spec = tie.close (tie.spec number-of-requires value-of-requires returns)

@@ -1,0 +1,24 @@
+-- `exports::calls::birnenschloss_confirm` meets its contract: it forwards.
+-- Assumes nothing.
+use borrow.Author.Needs.{needs}
+use Rattle.exports.proofs.calls.birnenschloss_confirm.Statement.{statement}
+use mathlib.Core.Path.{_≡_, ap}
+use Rattle.exports.specs.Results.{resultOf}
+use Rattle.exports.proofs.calls.birnenschloss_confirm.Tie as tie
+use Rattle.exports.proofs.calls.answer_of.Reads as answer-of-reads
+use Rattle.layer.proofs.confirm.Reads as confirm-reads
+
+confirm-requires : tie.Need-confirm-requires
+confirm-requires c κs = search needs
+
+answer-of-requires : tie.Need-answer-of-requires
+answer-of-requires c κs = search needs
+
+same-length : tie.Need-same-length
+same-length c = search needs
+
+returns : tie.Need-returns
+returns c = rw (c .answer-of .ensures) (ap resultOf (c .before .before .before .confirm .ensures))
+pub birnenschloss-confirm-spec : {M : Type 1} → statement M
+birnenschloss-confirm-spec =
+    tie.close (tie.spec confirm-requires answer-of-requires same-length returns)

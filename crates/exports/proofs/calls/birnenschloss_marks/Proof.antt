@@ -1,0 +1,20 @@
+-- `exports::calls::birnenschloss_marks` meets its contract: it forwards.
+-- Assumes nothing.
+use borrow.Author.Needs.{needs}
+use Rattle.exports.proofs.calls.birnenschloss_marks.Statement.{statement}
+use mathlib.Core.Path.{_≡_, ap}
+use Rattle.exports.specs.Results.{resultOf}
+use Rattle.exports.proofs.calls.birnenschloss_marks.Tie as tie
+use Rattle.exports.proofs.calls.answer_of.Reads as answer-of-reads
+use Rattle.layer.proofs.marks.Reads as marks-reads
+
+marks-requires : tie.Need-marks-requires
+marks-requires c κs = search needs
+
+answer-of-requires : tie.Need-answer-of-requires
+answer-of-requires c κs = search needs
+
+returns : tie.Need-returns
+returns c = rw (c .answer-of .ensures) (ap resultOf (c .before .marks .ensures))
+pub birnenschloss-marks-spec : {M : Type 1} → statement M
+birnenschloss-marks-spec = tie.close (tie.spec marks-requires answer-of-requires returns)

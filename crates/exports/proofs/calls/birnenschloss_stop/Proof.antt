@@ -1,0 +1,23 @@
+-- `exports::calls::birnenschloss_stop` meets its contract: it forwards.
+-- Assumes nothing.
+use borrow.Author.Needs.{needs}
+use Rattle.exports.proofs.calls.birnenschloss_stop.Statement.{statement}
+use mathlib.Core.Path.{_≡_, ap}
+use Rattle.exports.specs.Results.{resultOf}
+use Rattle.exports.proofs.calls.birnenschloss_stop.Tie as tie
+use Rattle.exports.proofs.calls.answer_of.Reads as answer-of-reads
+use Rattle.layer.proofs.stop.Reads as stop-reads
+
+stop-requires : tie.Need-stop-requires
+stop-requires c κs = search needs
+
+answer-of-requires : tie.Need-answer-of-requires
+answer-of-requires c κs = search needs
+
+same-length : tie.Need-same-length
+same-length c = search needs
+
+returns : tie.Need-returns
+returns c = rw (c .answer-of .ensures) (ap resultOf (c .before .before .before .stop .ensures))
+pub birnenschloss-stop-spec : {M : Type 1} → statement M
+birnenschloss-stop-spec = tie.close (tie.spec stop-requires answer-of-requires same-length returns)

@@ -1,0 +1,123 @@
+//! The library behind one function, with every call's arguments as the C interface has them.
+//! With `--cfg own` a second copy of the reference state stands in for the library.
+
+use crate::call::Call;
+use crate::table::Answer;
+
+#[cfg(not(own))]
+#[rustfmt::skip]
+mod linked {
+    use super::Answer;
+    // A table or the bytes of an indication: where they start, and how many they are.
+    type In = *const u8;
+    // Working memory or a request area.
+    type Out = *mut u8;
+    type N = usize;
+
+    extern "C" {
+        pub fn birnenschloss_start(t: In, tn: N, m: Out, mn: N) -> Answer;
+        pub fn birnenschloss_stop(t: In, tn: N, m: Out, mn: N) -> Answer;
+        pub fn birnenschloss_send(
+            t: In, tn: N, m: Out, mn: N, area: Out, an: N, object: u32, value: u32,
+        ) -> Answer;
+        pub fn birnenschloss_initialise(
+            t: In, tn: N, m: Out, mn: N, object: u32, value: u32,
+        ) -> Answer;
+        pub fn birnenschloss_receive(t: In, tn: N, m: Out, mn: N, object: u32) -> Answer;
+        pub fn birnenschloss_status(t: In, tn: N, m: Out, mn: N, object: u32) -> Answer;
+        pub fn birnenschloss_marks(t: In, tn: N, m: Out, mn: N, object: u32) -> Answer;
+        pub fn birnenschloss_clear_marks(t: In, tn: N, m: Out, mn: N, object: u32) -> Answer;
+        pub fn birnenschloss_start_periodic(t: In, tn: N, m: Out, mn: N) -> Answer;
+        pub fn birnenschloss_stop_periodic(t: In, tn: N, m: Out, mn: N) -> Answer;
+        pub fn birnenschloss_indication(
+            t: In, tn: N, m: Out, mn: N, ipdu: u32, good: u32, bytes: In, bn: N,
+        ) -> Answer;
+        pub fn birnenschloss_confirm(
+            t: In, tn: N, m: Out, mn: N, ipdu: u32, good: u32,
+        ) -> Answer;
+        #[cfg(tick)]
+        pub fn birnenschloss_tick(t: In, tn: N, m: Out, mn: N, area: Out, an: N) -> Answer;
+    }
+}
+
+/// The linked library keeps nothing of its own: all it knows is in the lent memory.
+#[cfg(not(own))]
+#[derive(Clone)]
+pub struct Library;
+
+#[cfg(not(own))]
+impl Library {
+    pub fn new(_table: &[u8]) -> Library {
+        Library
+    }
+
+    pub fn call(&mut self, table: &[u8], m: &mut [u8], call: &Call, area: &mut [u8]) -> Answer {
+        use linked::*;
+        let (t, tn, mn) = (table.as_ptr(), table.len(), m.len());
+        let (m, an) = (m.as_mut_ptr(), area.len());
+        let a = area.as_mut_ptr();
+        // Each slice is lent for the whole call; its start and its length belong together.
+        unsafe {
+            match *call {
+                Call::Start => birnenschloss_start(t, tn, m, mn),
+                Call::Stop => birnenschloss_stop(t, tn, m, mn),
+                Call::Send { object, value } => {
+                    birnenschloss_send(t, tn, m, mn, a, an, object, value)
+                }
+                Call::Initialise { object, value } => {
+                    birnenschloss_initialise(t, tn, m, mn, object, value)
+                }
+                Call::Receive { object } => birnenschloss_receive(t, tn, m, mn, object),
+                Call::Status { object } => birnenschloss_status(t, tn, m, mn, object),
+                Call::Marks { object } => birnenschloss_marks(t, tn, m, mn, object),
+                Call::ClearMarks { object } => birnenschloss_clear_marks(t, tn, m, mn, object),
+                Call::StartPeriodic => birnenschloss_start_periodic(t, tn, m, mn),
+                Call::StopPeriodic => birnenschloss_stop_periodic(t, tn, m, mn),
+                Call::Indication { ipdu, good, ref bytes } => {
+                    let (b, bn) = (bytes.as_ptr(), bytes.len());
+                    birnenschloss_indication(t, tn, m, mn, ipdu, good as u32, b, bn)
+                }
+                Call::Confirm { ipdu, good } => {
+                    birnenschloss_confirm(t, tn, m, mn, ipdu, good as u32)
+                }
+                #[cfg(tick)]
+                Call::Tick => birnenschloss_tick(t, tn, m, mn, a, an),
+                #[cfg(not(tick))]
+                Call::Tick => unreachable!("built without tick"),
+            }
+        }
+    }
+}
+
+/// The stand-in: a state of its own. It reads of the memory only whether its numbers are in
+/// their ranges and whether it is stopped, and writes its state there after every call that is
+/// not refused.
+#[cfg(own)]
+#[derive(Clone)]
+pub struct Library {
+    layer: crate::reference::Layer,
+}
+
+#[cfg(own)]
+impl Library {
+    pub fn new(table: &[u8]) -> Library {
+        Library { layer: crate::reference::Layer::new(table) }
+    }
+
+    pub fn call(&mut self, table: &[u8], m: &mut [u8], call: &Call, area: &mut [u8]) -> Answer {
+        let long = self.layer.table_right && m.len() >= 8192;
+        let in_range = long && crate::ranges::in_range(table, m);
+        if in_range {
+            self.layer.stopped = m[0] == 1;
+        }
+        let answer = self.layer.call(call, m.len(), in_range, area);
+        if call.refused_by(answer.number) {
+            return answer;
+        }
+        if let Call::Start = call {
+            m[..8192].fill(0);
+        }
+        crate::stored::write(&self.layer, m);
+        answer
+    }
+}

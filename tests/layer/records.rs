@@ -1,0 +1,188 @@
+//! The records of the table, read from its bytes, with what is kept of each I-PDU and object;
+//! the bits of an object; its filter. Written from document 01 alone.
+
+use std::collections::VecDeque;
+
+// ---- The table ----
+
+/// An I-PDU: the fields of its record, then what is kept of it.
+#[derive(Clone)]
+pub struct Ipdu {
+    pub sends: bool,
+    pub length: usize,
+    pub mode: u8,
+    pub period: u16,
+    pub offset: u16,
+    pub minimum_delay: u16,
+    pub deadline: u16,
+    pub first_deadline: u16,
+
+    pub bytes: [u8; 8],
+    pub open: bool,
+    pub wanted: bool,
+    pub running: bool,
+    pub delay: u16,
+    pub deadline_left: u16,
+    pub countdown: u16,
+    pub timer: u16,
+}
+
+/// A message object: the fields of its record, then what is kept of it.
+#[derive(Clone)]
+pub struct Object {
+    pub sends: bool,
+    pub ipdu: Option<usize>,
+    pub sender: Option<usize>,
+    /// The I-PDU bits that message bits 0, 1, 2 and on go to.
+    pub bits: Vec<usize>,
+    pub triggered: bool,
+    pub depth: usize,
+    pub filter: u8,
+    pub initial: u32,
+    pub first: u32,
+    pub second: u32,
+
+    pub value: u32,
+    pub queue: VecDeque<u32>,
+    pub overflow: bool,
+    pub old: u32,
+    pub occurrence: u8,
+    pub marks: u8,
+}
+
+pub fn two(record: &[u8], at: usize) -> u16 {
+    u16::from_le_bytes([record[at], record[at + 1]])
+}
+
+fn four(record: &[u8], at: usize) -> u32 {
+    u32::from_le_bytes([record[at], record[at + 1], record[at + 2], record[at + 3]])
+}
+
+fn unless_none(number: u8) -> Option<usize> {
+    if number == 255 {
+        None
+    } else {
+        Some(number as usize)
+    }
+}
+
+pub fn ipdu_of(record: &[u8]) -> Ipdu {
+    Ipdu {
+        sends: record[0] == 1,
+        length: record[1] as usize,
+        mode: record[2],
+        period: two(record, 4),
+        offset: two(record, 6),
+        minimum_delay: two(record, 8),
+        deadline: two(record, 10),
+        first_deadline: two(record, 12),
+        bytes: [0; 8],
+        open: false,
+        wanted: false,
+        running: false,
+        delay: 0,
+        deadline_left: 0,
+        countdown: 0,
+        timer: 0,
+    }
+}
+
+pub fn object_of(record: &[u8]) -> Object {
+    Object {
+        sends: record[0] == 1,
+        ipdu: unless_none(record[1]),
+        sender: unless_none(record[2]),
+        bits: bits(record[3] as usize, record[4] as usize, record[5] == 1),
+        triggered: record[6] == 0,
+        depth: record[7] as usize,
+        filter: record[8],
+        initial: four(record, 12),
+        first: four(record, 16),
+        second: four(record, 20),
+        value: 0,
+        queue: VecDeque::new(),
+        overflow: false,
+        old: 0,
+        occurrence: 0,
+        marks: 0,
+    }
+}
+
+// ---- Bits ----
+
+/// Message bit 0 goes to the start bit. Little: the next bit up each time. Big: as little up to
+/// the byte's end, then on from bit 0 of the byte before.
+fn bits(start: usize, length: usize, big: bool) -> Vec<usize> {
+    let mut places = vec![start];
+    while places.len() < length {
+        let last = places[places.len() - 1];
+        if big && last % 8 == 7 {
+            places.push(8 * (last / 8 - 1));
+        } else {
+            places.push(last + 1);
+        }
+    }
+    places
+}
+
+/// Puts the message bits to their places; high bits that have no place are dropped.
+pub fn pack(places: &[usize], value: u32, bytes: &mut [u8]) {
+    for (i, k) in places.iter().enumerate() {
+        let (byte, bit) = (k / 8, k % 8);
+        if value >> i & 1 == 1 {
+            bytes[byte] |= 1 << bit;
+        } else {
+            bytes[byte] &= !(1 << bit);
+        }
+    }
+}
+
+pub fn unpack(places: &[usize], bytes: &[u8]) -> u32 {
+    let mut value = 0;
+    for (i, k) in places.iter().enumerate() {
+        let (byte, bit) = (k / 8, k % 8);
+        if bytes[byte] >> bit & 1 == 1 {
+            value |= 1 << i;
+        }
+    }
+    value
+}
+
+// ---- Filters ----
+
+impl Object {
+    fn judge(&self, new: u32) -> bool {
+        let old = self.old;
+        match self.filter {
+            0 => true,
+            1 => false,
+            2 => new & self.first == self.second,
+            3 => new & self.first != self.second,
+            4 => new == old,
+            5 => new != old,
+            6 => new & self.first == old & self.first,
+            7 => new & self.first != old & self.first,
+            8 => self.first <= new && new <= self.second,
+            9 => !(self.first <= new && new <= self.second),
+            10 => new > old,
+            11 => new <= old,
+            12 => new < old,
+            13 => new >= old,
+            14 => self.occurrence as u32 % self.first == self.second,
+            _ => unreachable!("the check has refused this filter"),
+        }
+    }
+
+    /// One filtering: the occurrence rises afterwards, passed or not; old is set if passed.
+    pub fn filter(&mut self, new: u32) -> bool {
+        let passed = self.judge(new);
+        self.occurrence = match self.occurrence {
+            255 => 0,
+            n => n + 1,
+        };
+        if passed {
+            self.old = new;
+        }
+        passed
+    }
+}
