@@ -1,0 +1,158 @@
+-- A refused call leaves all lent bytes: with any number but 0 and a receive's 3, working memory and area are as found; status and
+-- marks change nothing in any case.
+-- Assumes nothing.
+use mathlib.Core.Bool.{Bool, true, false, not, _&&_}
+use mathlib.Core.List.{List, []}
+use mathlib.Core.Path.{_≡_, refl}
+use Prim.Native.Nat.{ℕ}
+use lib.Dec.{leb, ltb, eqb}
+use lib.ListN.{length}
+use Rattle.memory.specs.Search.{pick}
+use Rattle.table.specs.declared.Counts.{Counts}
+use Rattle.table.specs.declared.Verdict.{Verdict}
+use Rattle.table.specs.declared.Verdict.the-variants.{Accepted, WrongHeader, WrongIpdu, WrongObject}
+use Rattle.table.specs.Check.{check}
+use Rattle.table.specs.Records.{ipduRecord, objectRecord}
+use Rattle.state.specs.Layout.{memorySize, objectState, ipduState}
+use Rattle.state.specs.Updates.{withWanted}
+use Rattle.message.specs.Objects.{object, lets, oldest, take}
+use Rattle.message.specs.Delivery.{deliverInside}
+use Rattle.transmission.specs.Requests.{ipdu}
+use Rattle.layer.specs.declared.Admission.{Admission}
+use Rattle.layer.specs.declared.Admission.the-variants.{Admitted, Refused}
+use Rattle.layer.specs.declared.Answer.{Answer}
+use Rattle.layer.specs.declared.Answer.the-variants.{Done, WrongId, WrongLength, Limit, NoMessage, NotRequested}
+use Rattle.layer.specs.Answers.{Outcome, outcome, numberOf, admission, follow}
+use Rattle.layer.specs.Start.{startOf, startCall}
+use Rattle.layer.specs.Calls.{isObject, isIpdu, stopIn, wants, request, sendOf, sendIn, initialiseIn, limited, receiveIn, statusIn, marksIn, clearMarksIn, periodicIn, indicationIn, confirmIn}
+use Rattle.layer.specs.Step.{Call, start, stop, send, initialise, receive, status, marks, clearMarks, startPeriodic, stopPeriodic, indication, confirm, areaSize, step}
+
+-- the area that a call is lent
+abbrev pub areaOf : Call → List ℕ
+areaOf (send i value area) = area
+areaOf start = []
+areaOf stop = []
+areaOf (initialise i value) = []
+areaOf (receive i) = []
+areaOf (status i) = []
+areaOf (marks i) = []
+areaOf (clearMarks i) = []
+areaOf startPeriodic = []
+areaOf stopPeriodic = []
+areaOf (indication k good bytes) = []
+areaOf (confirm k good) = []
+
+-- all lent bytes are as found
+pub record Unchanged (m lent : List ℕ) (o : Outcome) : Type 0 where
+  pub memory : o .memory ≡ m
+  pub area : o .area ≡ lent
+
+-- not done, and not a receive's 3
+abbrev Leaves : List ℕ → List ℕ → Outcome → Type 0
+Leaves m area o = (numberOf (o .answer) ≡ 0 → ⊥) → (numberOf (o .answer) ≡ 3 → ⊥) → Unchanged m area o
+
+same : (a : Answer) (m area : List ℕ) → Leaves m area (outcome a m area)
+same a m area done limit = record { memory = refl; area = refl }
+
+did : (v : ℕ) (m area n other : List ℕ) → Leaves m area (outcome (Done v) n other)
+did v m area n other done limit = absurd (done refl)
+
+either : (b : Bool) (m area : List ℕ) (x y : Outcome) → Leaves m area x → Leaves m area y → Leaves m area (pick b x y)
+either true m area x y p q = p
+either false m area x y p q = q
+
+-- ---- each call over an accepted table and a memory in range
+
+request-leaves : (t : List ℕ) (b : Bool) (x : Outcome) (m area n other : List ℕ) → Leaves m area x → Leaves m area (pick b x (outcome (Done 0) n other))
+request-leaves t b x m area n other p = either b m area x (outcome (Done 0) n other) p (did 0 m area n other)
+
+send-leaves : (t : List ℕ) (c : Counts) (i v : ℕ) (area m : List ℕ) → Leaves m area (sendIn t c i v area m)
+unfolding sendIn sendOf request
+send-leaves t c i v area m =
+    either (isObject t c 1 i) m area _ _
+    (request-leaves t (lets (object t c i) v (objectState (deliverInside t c i v m) i)) _ m area _ area
+    (request-leaves t (wants t (object t c i)) _ m area _ area (did _ m area _ _)))
+    (same WrongId m area)
+
+limited-leaves : (b : Bool) (v : ℕ) (m n : List ℕ) → Leaves m [] (outcome (pick b (Done v) (Limit v)) n [])
+limited-leaves true v m n done limit = absurd (done refl)
+limited-leaves false v m n done limit = absurd (limit refl)
+
+receive-leaves : (t : List ℕ) (c : Counts) (i : ℕ) (m : List ℕ) → Leaves m [] (receiveIn t c i m)
+unfolding receiveIn
+receive-leaves t c i m =
+    either (isObject t c 2 i) m [] _ _
+    (either (eqb (objectRecord t (c .ipdus) i .depth) 0) m [] _ _ (same (Done _) m [])
+    (either (eqb (objectState m i .count) 0) m [] _ _ (same NoMessage m [])
+    (limited-leaves (eqb (objectState m i .overflow) 0) (oldest (objectRecord t (c .ipdus) i .depth) i m) m
+    (take (objectRecord t (c .ipdus) i .depth) i m))))
+    (same WrongId m [])
+
+indication-leaves : (t : List ℕ) (c : Counts) (k : ℕ) (good : Bool) (bytes m : List ℕ) → Leaves m [] (indicationIn t c k good bytes m)
+unfolding indicationIn
+indication-leaves t c k true bytes m =
+    either (isIpdu t c 2 k) m [] _ _
+    (either (eqb (length bytes) (ipduRecord t k .length)) m [] _ _ (did 0 m [] _ _) (same WrongLength m []))
+    (same WrongId m [])
+indication-leaves t c k false bytes m = either (isIpdu t c 2 k) m [] _ _ (did 0 m [] _ _) (same WrongId m [])
+
+confirm-leaves : (t : List ℕ) (c : Counts) (k : ℕ) (good : Bool) (m : List ℕ) → Leaves m [] (confirmIn t c k good m)
+unfolding confirmIn
+confirm-leaves t c k good m =
+    either (isIpdu t c 1 k) m [] _ _
+    (either (eqb (ipduState m k .requested) 0) m [] _ _ (same NotRequested m []) (did 0 m [] _ _))
+    (same WrongId m [])
+
+-- ---- any call
+
+follow-leaves : (a : Admission) (m area : List ℕ) (f : Counts → Outcome) → ((c : Counts) → Leaves m area (f c)) → Leaves m area (follow a m area f)
+follow-leaves (Admitted c) m area f p = p c
+follow-leaves (Refused a) m area f p = same a m area
+
+start-leaves : (v : Verdict) (t m : List ℕ) → Leaves m [] (startOf v t m)
+start-leaves (Accepted c) t m = either (leb memorySize (length m)) m [] _ _ (did 0 m [] _ _) (same _ m [])
+start-leaves WrongHeader t m = same _ m []
+start-leaves (WrongIpdu k) t m = same _ m []
+start-leaves (WrongObject i) t m = same _ m []
+
+pub refused-leaves : (t : List ℕ) (call : Call) (m : List ℕ) → (numberOf (step t call m .answer) ≡ 0 → ⊥)
+    → (numberOf (step t call m .answer) ≡ 3 → ⊥) → Unchanged m (areaOf call) (step t call m)
+unfolding step startCall stopIn initialiseIn marksIn clearMarksIn periodicIn statusIn
+refused-leaves t start m = start-leaves (check t) t m
+refused-leaves t stop m = follow-leaves (admission t m true) m [] _ (λ c. did 0 m [] _ [])
+refused-leaves t (send i v area) m = follow-leaves (admission t m (leb areaSize (length area))) m area _ (λ c. send-leaves t c i v area m)
+refused-leaves t (initialise i v) m =
+    follow-leaves (admission t m true) m [] _ (λ c. either (ltb i (c .objects)) m [] _ _ (did 0 m [] _ []) (same WrongId m []))
+refused-leaves t (receive i) m = follow-leaves (admission t m true) m [] _ (λ c. receive-leaves t c i m)
+refused-leaves t (status i) m =
+    follow-leaves (admission t m true) m [] _
+    (λ c.
+    either (isObject t c 2 i && not (eqb (objectRecord t (c .ipdus) i .depth) 0)) m [] _ _ (same _ m []) (same WrongId m []))
+refused-leaves t (marks i) m =
+    follow-leaves (admission t m true) m [] _ (λ c. either (ltb i (c .objects)) m [] _ _ (same _ m []) (same WrongId m []))
+refused-leaves t (clearMarks i) m =
+    follow-leaves (admission t m true) m [] _ (λ c. either (ltb i (c .objects)) m [] _ _ (did 0 m [] _ []) (same WrongId m []))
+refused-leaves t startPeriodic m = follow-leaves (admission t m true) m [] _ (λ c. did 0 m [] _ [])
+refused-leaves t stopPeriodic m = follow-leaves (admission t m true) m [] _ (λ c. did 0 m [] _ [])
+refused-leaves t (indication k good bytes) m = follow-leaves (admission t m true) m [] _ (λ c. indication-leaves t c k good bytes m)
+refused-leaves t (confirm k good) m = follow-leaves (admission t m true) m [] _ (λ c. confirm-leaves t c k good m)
+
+-- a status that answers 3 changes nothing either
+module _ (t m : List ℕ) (i : ℕ) where
+  reads-only : (a : Admission) (f : Counts → Outcome) → ((c : Counts) → Unchanged m [] (f c)) → Unchanged m [] (follow a m [] f)
+  reads-only (Admitted c) f p = p c
+  reads-only (Refused a) f p = record { memory = refl; area = refl }
+
+  unread : (b : Bool) (x y : Answer) → Unchanged m [] (pick b (outcome x m []) (outcome y m []))
+  unread true x y = record { memory = refl; area = refl }
+  unread false x y = record { memory = refl; area = refl }
+
+  pub status-reads : Unchanged m [] (step t (status i) m)
+  unfolding step statusIn
+  status-reads =
+      reads-only (admission t m true) (λ c. statusIn t c i m)
+      (λ c. unread (isObject t c 2 i && not (eqb (objectRecord t (c .ipdus) i .depth) 0)) _ _)
+
+  pub marks-reads : Unchanged m [] (step t (marks i) m)
+  unfolding step marksIn
+  marks-reads = reads-only (admission t m true) (λ c. marksIn c i m) (λ c. unread (ltb i (c .objects)) _ _)
