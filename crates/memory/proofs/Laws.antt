@@ -197,6 +197,11 @@ take-front (suc n) zero f h = absurd (omega arith)
 take-front (suc n) (suc k) [] h = refl
 take-front (suc n) (suc k) (b ∷ f) h = ap (λ (g : List ℕ). b ∷ g) (take-front n k f (le-of-suc-le-suc h))
 
+-- the front of a part
+pub part-front : (at n k : ℕ) (m : List ℕ) → n ≤ k → take n (part at k m) ≡ part at n m
+unfolding part
+part-front at n k m h = take-front n k (drop at m) h
+
 -- the first n of 8 bytes with zeros to 8, as a number
 pub bytesOf-front : (n at : ℕ) (m : List ℕ) → Bytes m → n ≤ 8 → at + 8 ≤ length m
     → bytesOf 8 (get 8 at m % 256 ^ n) ≡ part at n m ++ replicate (8 - n) 0

@@ -83,3 +83,21 @@ pub fold-keeps {ℓ κ} : {A : Type ℓ} (P : A → Type κ) (n : ℕ) (turn : �
     → ((k : ℕ) → k < n → (a : A) → P a → P (turn k a)) → (a : A) → P a → P (fold n turn a)
 fold-keeps P zero turn keeps a h = h
 fold-keeps P (suc n) turn keeps a h = keeps n (le-refl (suc n)) (fold n turn a) (fold-keeps P n turn (λ k b. keeps k (omega arith)) a h)
+
+-- what no turn changes is as it was
+pub fold-view {ℓ κ} : {A : Type ℓ} {B : Type κ} (view : A → B) (n : ℕ) (turn : ℕ → A → A) (a : A)
+    → ((k : ℕ) → k < n → view (turn k (fold k turn a)) ≡ view (fold k turn a)) → view (fold n turn a) ≡ view a
+fold-view view zero turn a keeps = refl
+fold-view view (suc n) turn a keeps = keeps n (le-refl (suc n)) ∙ fold-view view n turn a (λ k h. keeps k (omega (arith, h)))
+
+-- what turn j alone changes is as turn j left it
+pub fold-at {ℓ κ} : {A : Type ℓ} {B : Type κ} (view : A → B) (n : ℕ) (turn : ℕ → A → A) (a : A) (j : ℕ) → j < n
+    → ((k : ℕ) → k < n → (k ≡ j → ⊥) → view (turn k (fold k turn a)) ≡ view (fold k turn a))
+    → view (fold n turn a) ≡ view (turn j (fold j turn a))
+fold-at view zero turn a j h keeps = absurd (not-suc-le-zero h)
+fold-at view (suc n) turn a j h keeps =
+    ⊎-elim
+    (λ (e : n ≡ j). rw e refl)
+    (λ (ne : n ≡ j → ⊥).
+    keeps n (le-refl (suc n)) ne ∙ fold-at view n turn a j (omega (arith, h, ne)) (λ k b. keeps k (omega (arith, b))))
+    (eq-or-ne n j)

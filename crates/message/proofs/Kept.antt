@@ -137,10 +137,10 @@ right-placed t c m right long i h =
     }
 
 module _ (o : Object) (v : ℕ) (m : List ℕ) (placed : Placed o m) where
-  pack-room : eqb (o .ipdu .0) none ≡ false → slotAt (o .ipdu .0) + 8 ≤ length m
+  pub pack-room : eqb (o .ipdu .0) none ≡ false → slotAt (o .ipdu .0) + 8 ≤ length m
   pack-room some = omega (arith, placed .ipdu some, placed .long)
 
-  packed-slot-length : eqb (o .ipdu .0) none ≡ false
+  pub packed-slot-length : eqb (o .ipdu .0) none ≡ false
       → length (packed (o .order) (startBit o) (o .size .0) v (part (slotAt (o .ipdu .0)) 8 m)) ≡ 8
   packed-slot-length some =
       packed-length (o .order) (startBit o) (o .size .0) v (part (slotAt (o .ipdu .0)) 8 m)
@@ -238,7 +238,7 @@ picked P true x y p q = p
 picked P false x y p q = q
 
 -- the value unpacked fits 32 bits
-unpack-lt : (t : List ℕ) (c : Counts) (m : List ℕ) → Ready t c m → (i : ℕ) → i < c .objects → unpack (object t c i) m < 2 ^ 32
+pub unpack-lt : (t : List ℕ) (c : Counts) (m : List ℕ) → Ready t c m → (i : ℕ) → i < c .objects → unpack (object t c i) m < 2 ^ 32
 unfolding unpack
 unpack-lt t c m ready i h =
     let o = object t c i in

@@ -91,6 +91,20 @@ module _ (t : List ℕ) (c : Counts) (m : List ℕ) (ready : Ready t c m) where
   ready-kept i h =
       object-kept (objectRecord t (c .ipdus) i .depth) (depths t c i) (objectState m i) (object-fits m i (ready .bytes)) (ready .objects i h)
 
+  pub kept-fits : (i : ℕ) → i < c .objects → (s : ObjectState) → ObjectKept (objectRecord t (c .ipdus) i .depth) (depths t c i) s → ObjectFits s
+  kept-fits i h s kept =
+      let q = in-queues i h in
+      record {
+        value = kept .value;
+        old = kept .old;
+        occurrence = kept .occurrence;
+        marks = omega (arith, kept .marks);
+        overflow = omega (arith, kept .overflow);
+        head = omega (arith, kept .head, q .depth);
+        count = omega (arith, kept .count, q .depth);
+        queue = omega (arith, kept .queue, q .sum);
+      }
+
   -- an object's row set to numbers in range
   pub ready-object : (i : ℕ) → i < c .objects → (s : ObjectState) → ObjectKept (objectRecord t (c .ipdus) i .depth) (depths t c i) s
       → Ready t c (withObjectState m i s)
@@ -110,18 +124,7 @@ module _ (t : List ℕ) (c : Counts) (m : List ℕ) (ready : Ready t c m) where
       room = object-row i h
 
       fits : ObjectFits s
-      fits =
-          let q = in-queues i h in
-          record {
-            value = kept .value;
-            old = kept .old;
-            occurrence = kept .occurrence;
-            marks = omega (arith, kept .marks);
-            overflow = omega (arith, kept .overflow);
-            head = omega (arith, kept .head, q .depth);
-            count = omega (arith, kept .count, q .depth);
-            queue = omega (arith, kept .queue, q .sum);
-          }
+      fits = kept-fits i h s kept
 
       objects : (j : ℕ) → j < c .objects
           → objectInRange (objectRecord t (c .ipdus) j .depth) (depths t c j) (objectState (withObjectState m i s) j) ≡ true

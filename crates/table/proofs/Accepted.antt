@@ -12,6 +12,7 @@ use lib.Dec.{leb, ltb, eqb}
 use Rattle.memory.specs.Search.{pick, least}
 use Rattle.memory.proofs.Search.{least-none, least-before, sum-more}
 use Rattle.memory.proofs.Tests.{and-split, or-split, true-or-false}
+use Rattle.bits.specs.Bits.{room}
 use Rattle.bits.specs.Slots.{position, InSlot}
 use Rattle.filter.specs.Filters.{HasPeriod, filterOf}
 use Rattle.filter.proofs.Laws.{right-has-period}
@@ -117,6 +118,7 @@ pub record Usable (t : List ℕ) (c : Counts) (r : ObjectRecord) : Type 0 where
   pub start : r .start < 64
   pub slot : InSlot (position (orderOf (r .order)) (r .start)) (r .size)
   pub ipdu : eqb (r .ipdu) 255 ≡ false → (r .ipdu < c .ipdus) × (ipduRecord t (r .ipdu) .direction ≡ r .kind)
+  pub room : eqb (r .ipdu) 255 ≡ false → room (orderOf (r .order)) (r .start) (r .size) (ipduRecord t (r .ipdu) .length) ≡ true
   pub sender : eqb (r .sender) 255 ≡ false → (r .sender < c .objects) × (objectRecord t (c .ipdus) (r .sender) .kind ≡ 1)
   pub depth : r .depth ≤ 16
   pub filter : HasPeriod (filterOf (r .filter) (r .first) (r .second))
@@ -128,6 +130,7 @@ usable t c right i h =
       start = place .0;
       slot = place .1;
       ipdu = λ some. let here = inside some in (here .number, here .direction);
+      room = λ some. inside some .room;
       sender = sender;
       depth = bytes .depths;
       filter = right-has-period (r .filter) (r .first) (r .second) (facts .filters);

@@ -131,6 +131,7 @@ kind-some r e =
 pub record InIpdu (t : List ℕ) (c : Counts) (r : ObjectRecord) : Type 0 where
   pub number : r .ipdu < c .ipdus
   pub direction : ipduRecord t (r .ipdu) .direction ≡ r .kind
+  pub room : room (orderOf (r .order)) (r .start) (r .size) (ipduRecord t (r .ipdu) .length) ≡ true
   pub start : r .start < 64
   pub slot : InSlot (position (orderOf (r .order)) (r .start)) (r .size)
 
@@ -151,6 +152,7 @@ in-ipdu t c ipdus r facts within =
     record {
       number = number;
       direction = rw exists at same;
+      room = rw exists at (parts .1);
       start = along .begins;
       slot = record { some = bytes .least; most = bytes .most; inside = along .ends };
     }
