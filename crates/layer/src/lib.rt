@@ -31,6 +31,8 @@ pub use objects::receive_checked;
 pub use objects::status_checked;
 pub use sending::send_checked;
 pub use starting::start;
+pub use state::MEMORY_SIZE;
+pub use transmission::AREA_SIZE;
 
 // What a call answers: done, with its result, or why not.
 pub enum Answer {

@@ -66,13 +66,13 @@ case6 =
     record {
       table = tableOf sendIpdu differs;
       lines =
-        line start 0 0
-        ∷ line (send 0 0 area) 0 0
-        ∷ line (send 0 5 area) 0 1
-        ∷ line (confirm 0 true) 0 0
-        ∷ line (send 0 5 area) 0 0
-        ∷ line (send 0 0 area) 0 1
-        ∷ [];
+          line start 0 0
+          ∷ line (send 0 0 area) 0 0
+          ∷ line (send 0 5 area) 0 1
+          ∷ line (confirm 0 true) 0 0
+          ∷ line (send 0 5 area) 0 0
+          ∷ line (send 0 0 area) 0 1
+          ∷ [];
     }
 
 -- 8: depth 2, arrivals 7, 8, 9 (from bit 13 on): receive gives 7 with 3, then 8 with 0, then 4
@@ -81,14 +81,14 @@ case8 =
     record {
       table = tableOf receiveIpdu queued;
       lines =
-        line start 0 0
-        ∷ line (indication 0 true (0 ∷ 224 ∷ 0 ∷ 0 ∷ [])) 0 0
-        ∷ line (indication 0 true (0 ∷ 0 ∷ 1 ∷ 0 ∷ [])) 0 0
-        ∷ line (indication 0 true (0 ∷ 32 ∷ 1 ∷ 0 ∷ [])) 0 0
-        ∷ line (receive 0) 3 7
-        ∷ line (receive 0) 0 8
-        ∷ line (receive 0) 4 0
-        ∷ [];
+          line start 0 0
+          ∷ line (indication 0 true (0 ∷ 224 ∷ 0 ∷ 0 ∷ [])) 0 0
+          ∷ line (indication 0 true (0 ∷ 0 ∷ 1 ∷ 0 ∷ [])) 0 0
+          ∷ line (indication 0 true (0 ∷ 32 ∷ 1 ∷ 0 ∷ [])) 0 0
+          ∷ line (receive 0) 3 7
+          ∷ line (receive 0) 0 8
+          ∷ line (receive 0) 4 0
+          ∷ [];
     }
 
 abbrev pub cases : List Case

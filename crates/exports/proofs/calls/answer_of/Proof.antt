@@ -14,5 +14,6 @@ value-of-requires c κs = search needs
 
 returns : tie.Need-returns
 returns c = rw (c .value-of .ensures, c .before .number-of .ensures)
+
 pub answer-of-spec : {M : Type 1} → statement M
 answer-of-spec = tie.close (tie.spec number-of-requires value-of-requires returns)

@@ -19,6 +19,7 @@ same-length c = search needs
 
 returns : tie.Need-returns
 returns c = rw (c .answer-of .ensures) (ap resultOf (c .before .before .before .clear-marks .ensures))
+
 pub birnenschloss-clear-marks-spec : {M : Type 1} → statement M
 birnenschloss-clear-marks-spec =
     tie.close (tie.spec clear-marks-requires answer-of-requires same-length returns)

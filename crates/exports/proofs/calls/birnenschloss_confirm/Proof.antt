@@ -19,6 +19,7 @@ same-length c = search needs
 
 returns : tie.Need-returns
 returns c = rw (c .answer-of .ensures) (ap resultOf (c .before .before .before .confirm .ensures))
+
 pub birnenschloss-confirm-spec : {M : Type 1} → statement M
 birnenschloss-confirm-spec =
     tie.close (tie.spec confirm-requires answer-of-requires same-length returns)

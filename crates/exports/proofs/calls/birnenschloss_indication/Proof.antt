@@ -19,6 +19,7 @@ same-length c = search needs
 
 returns : tie.Need-returns
 returns c = rw (c .answer-of .ensures) (ap resultOf (c .before .before .before .indication .ensures))
+
 pub birnenschloss-indication-spec : {M : Type 1} → statement M
 birnenschloss-indication-spec =
     tie.close (tie.spec indication-requires answer-of-requires same-length returns)

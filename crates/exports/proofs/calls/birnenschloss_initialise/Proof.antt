@@ -19,6 +19,7 @@ same-length c = search needs
 
 returns : tie.Need-returns
 returns c = rw (c .answer-of .ensures) (ap resultOf (c .before .before .before .initialise .ensures))
+
 pub birnenschloss-initialise-spec : {M : Type 1} → statement M
 birnenschloss-initialise-spec =
     tie.close (tie.spec initialise-requires answer-of-requires same-length returns)

@@ -16,5 +16,6 @@ answer-of-requires c κs = search needs
 
 returns : tie.Need-returns
 returns c = rw (c .answer-of .ensures) (ap resultOf (c .before .marks .ensures))
+
 pub birnenschloss-marks-spec : {M : Type 1} → statement M
 birnenschloss-marks-spec = tie.close (tie.spec marks-requires answer-of-requires returns)

@@ -19,6 +19,7 @@ same-length c = search needs
 
 returns : tie.Need-returns
 returns c = rw (c .answer-of .ensures) (ap resultOf (c .before .before .before .receive .ensures))
+
 pub birnenschloss-receive-spec : {M : Type 1} → statement M
 birnenschloss-receive-spec =
     tie.close (tie.spec receive-requires answer-of-requires same-length returns)

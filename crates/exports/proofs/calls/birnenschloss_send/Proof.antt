@@ -22,6 +22,7 @@ same-length-2 c = search needs
 
 returns : tie.Need-returns
 returns c = rw (c .answer-of .ensures) (ap resultOf (c .before .before .before .before .before .send .ensures))
+
 pub birnenschloss-send-spec : {M : Type 1} → statement M
 birnenschloss-send-spec =
     tie.close (tie.spec send-requires answer-of-requires same-length same-length-2 returns)

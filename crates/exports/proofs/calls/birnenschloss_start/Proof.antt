@@ -19,6 +19,7 @@ same-length c = search needs
 
 returns : tie.Need-returns
 returns c = rw (c .answer-of .ensures) (ap resultOf (c .before .before .before .start .ensures))
+
 pub birnenschloss-start-spec : {M : Type 1} → statement M
 birnenschloss-start-spec =
     tie.close (tie.spec start-requires answer-of-requires same-length returns)

@@ -16,5 +16,6 @@ answer-of-requires c κs = search needs
 
 returns : tie.Need-returns
 returns c = rw (c .answer-of .ensures) (ap resultOf (c .before .status .ensures))
+
 pub birnenschloss-status-spec : {M : Type 1} → statement M
 birnenschloss-status-spec = tie.close (tie.spec status-requires answer-of-requires returns)

@@ -19,5 +19,6 @@ same-length c = search needs
 
 returns : tie.Need-returns
 returns c = rw (c .answer-of .ensures) (ap resultOf (c .before .before .before .stop .ensures))
+
 pub birnenschloss-stop-spec : {M : Type 1} → statement M
 birnenschloss-stop-spec = tie.close (tie.spec stop-requires answer-of-requires same-length returns)

@@ -19,6 +19,7 @@ same-length c = search needs
 
 returns : tie.Need-returns
 returns c = rw (c .answer-of .ensures) (ap resultOf (c .before .before .before .stop-periodic .ensures))
+
 pub birnenschloss-stop-periodic-spec : {M : Type 1} → statement M
 birnenschloss-stop-periodic-spec =
     tie.close (tie.spec stop-periodic-requires answer-of-requires same-length returns)

@@ -1,0 +1,230 @@
+// Makes one call of the layer ten times, each time from the same memory; bench/layer.sh counts its instructions. `case12` is
+// document 01's case 12. `large` has 32 I-PDUs and 128 objects, in both byte orders, with mixed filters:
+//   I-PDUs 0..15 are sent, in all three modes, with objects 4k..4k+3 each, the third of them pending;
+//   I-PDU 16 has the unqueued objects 64..71, I-PDU 17 the objects 72..79 with queues of depth 4, all eight filters let
+//   `FRAME` pass, and I-PDUs 18..31 have objects 80..121, three each, every third with a queue of depth 8;
+//   objects 122..127 have the sending objects 12, 16, 17, 21, 33 and 63.
+use std::hint::black_box;
+use std::ops::Range;
+
+#[repr(C)]
+#[derive(Clone, Copy)]
+pub struct Answer {
+    number: u32,
+    value: u32,
+}
+
+extern "C" {
+    fn birnenschloss_start(t: *const u8, tl: usize, m: *mut u8, ml: usize) -> Answer;
+    fn birnenschloss_stop(t: *const u8, tl: usize, m: *mut u8, ml: usize) -> Answer;
+    fn birnenschloss_send(
+        t: *const u8, tl: usize, m: *mut u8, ml: usize, area: *mut u8, al: usize, object: u32, value: u32,
+    ) -> Answer;
+    fn birnenschloss_initialise(t: *const u8, tl: usize, m: *mut u8, ml: usize, object: u32, value: u32) -> Answer;
+    fn birnenschloss_receive(t: *const u8, tl: usize, m: *mut u8, ml: usize, object: u32) -> Answer;
+    fn birnenschloss_status(t: *const u8, tl: usize, m: *const u8, ml: usize, object: u32) -> Answer;
+    fn birnenschloss_marks(t: *const u8, tl: usize, m: *const u8, ml: usize, object: u32) -> Answer;
+    fn birnenschloss_clear_marks(t: *const u8, tl: usize, m: *mut u8, ml: usize, object: u32) -> Answer;
+    fn birnenschloss_start_periodic(t: *const u8, tl: usize, m: *mut u8, ml: usize) -> Answer;
+    fn birnenschloss_stop_periodic(t: *const u8, tl: usize, m: *mut u8, ml: usize) -> Answer;
+    fn birnenschloss_indication(
+        t: *const u8, tl: usize, m: *mut u8, ml: usize, ipdu: u32, good: u32, bytes: *const u8, bl: usize,
+    ) -> Answer;
+    fn birnenschloss_confirm(t: *const u8, tl: usize, m: *mut u8, ml: usize, ipdu: u32, good: u32) -> Answer;
+}
+
+const FRAME: [u8; 8] = [0x5A, 0xC3, 0x7E, 0x91, 0x3C, 0xE7, 0xA5, 0x69];
+const SLOTS: usize = 528;
+const REPETITIONS: usize = 10;
+
+#[derive(Clone, Copy)]
+pub enum Call {
+    Start,
+    StartShort,
+    Stop,
+    Send(u32, u32),
+    Initialise(u32, u32),
+    Receive(u32),
+    Status(u32),
+    Marks(u32),
+    ClearMarks(u32),
+    StartPeriodic,
+    StopPeriodic,
+    Indication(u32, u32),
+    Confirm(u32, u32),
+}
+use Call::*;
+
+fn make(call: Call, t: &[u8], m: &mut [u8], area: &mut [u8]) -> Answer {
+    let (tp, tl, mp, ml) = (t.as_ptr(), t.len(), m.as_mut_ptr(), m.len());
+    unsafe {
+        match call {
+            Start => birnenschloss_start(tp, tl, mp, ml),
+            StartShort => birnenschloss_start(tp, tl, mp, ml - 1),
+            Stop => birnenschloss_stop(tp, tl, mp, ml),
+            Send(i, v) => birnenschloss_send(tp, tl, mp, ml, area.as_mut_ptr(), area.len(), i, v),
+            Initialise(i, v) => birnenschloss_initialise(tp, tl, mp, ml, i, v),
+            Receive(i) => birnenschloss_receive(tp, tl, mp, ml, i),
+            Status(i) => birnenschloss_status(tp, tl, mp, ml, i),
+            Marks(i) => birnenschloss_marks(tp, tl, mp, ml, i),
+            ClearMarks(i) => birnenschloss_clear_marks(tp, tl, mp, ml, i),
+            StartPeriodic => birnenschloss_start_periodic(tp, tl, mp, ml),
+            StopPeriodic => birnenschloss_stop_periodic(tp, tl, mp, ml),
+            Indication(k, good) => birnenschloss_indication(tp, tl, mp, ml, k, good, FRAME.as_ptr(), FRAME.len()),
+            Confirm(k, good) => birnenschloss_confirm(tp, tl, mp, ml, k, good),
+        }
+    }
+}
+
+// callgrind collects in this function alone, and in what it calls.
+#[no_mangle]
+#[inline(never)]
+pub fn measured(call: Call, t: &[u8], m: &mut [u8], area: &mut [u8]) -> Answer {
+    black_box(make(call, t, m, area))
+}
+
+fn header(ipdus: u16, objects: u16) -> Vec<u8> {
+    let total = 16 + 16 * ipdus + 32 * objects;
+    let mut t: Vec<u8> = [ipdus, objects, 16, 16 + 16 * ipdus, total].iter().flat_map(|n| n.to_le_bytes()).collect();
+    t.resize(16, 0);
+    t
+}
+
+fn object(bytes: [u8; 8], filter: u8, first: u32, second: u32) -> [u8; 32] {
+    let mut o = [0u8; 32];
+    o[..8].copy_from_slice(&bytes);
+    o[8] = filter;
+    o[16..20].copy_from_slice(&first.to_le_bytes());
+    o[20..24].copy_from_slice(&second.to_le_bytes());
+    o
+}
+
+fn large() -> Vec<u8> {
+    let mut t = header(32, 128);
+    for k in 0..16 {
+        t.extend(match k % 4 {
+            1 => [1, 8, 2, 0, 20, 0, 5, 0, 3, 0, 10, 0, 0, 0, 0, 0],
+            2 => [1, 8, 1, 0, 20, 0, 5, 0, 0, 0, 10, 0, 0, 0, 0, 0],
+            _ => [1, 8, 0, 0, 0, 0, 0, 0, 3, 0, 10, 0, 0, 0, 0, 0],
+        });
+    }
+    for _ in 16..32 {
+        t.extend([2, 8, 0, 0, 0, 0, 0, 0, 0, 0, 50, 0, 90, 0, 0, 0]);
+    }
+    for i in 0..64u8 {
+        let (j, order) = (i % 4, i % 2);
+        let start = if order == 0 { 16 * j + 2 } else { 8 * (2 * j + 1) + 2 };
+        let (f, a, b) = [
+            (5, 0, 0), (3, 0xFFF, 0), (0, 0, 0), (8, 1, 4000),
+            (2, 0xF000_0000, 0), (14, 1, 0), (13, 0, 0), (7, 0xFFF, 0),
+        ][i as usize % 8];
+        t.extend(object([1, i / 4, 255, start, 12, order, (j == 2) as u8, 0], f, a, b));
+    }
+    for i in 64..122u8 {
+        let (ipdu, depth) = match i {
+            64..=71 => (16, 0),
+            72..=79 => (17, 4),
+            _ => (18 + (i - 80) / 3, if i % 3 == 0 { 8 } else { 0 }),
+        };
+        let (j, order) = (i % 8, i % 2);
+        let start = if order == 0 { 6 * j } else { 8 * (j % 7 + 1) + 2 };
+        let (f, a, b) = [
+            (0, 0, 0), (3, 0xFFF, 0), (5, 0, 0), (8, 0, 4095),
+            (7, 0xFFF, 0), (10, 0, 0), (14, 1, 0), (9, 1, 0),
+        ][j as usize];
+        t.extend(object([2, ipdu, 255, start, 12, order, 0, depth], f, a, b));
+    }
+    for (sender, depth, f) in [(12, 0, 0), (16, 4, 5), (17, 0, 5), (21, 16, 0), (33, 0, 10), (63, 2, 0)] {
+        t.extend(object([2, 255, sender, 0, 32, 0, 0, depth], f, 0, 0));
+    }
+    t
+}
+
+fn case12() -> Vec<u8> {
+    let mut t = header(1, 1);
+    t.extend([1, 4, 0, 0, 0, 0, 0, 0, 3, 0, 10, 0, 0, 0, 0, 0]);
+    t.extend(object([1, 0, 255, 13, 12, 0, 0, 0], 5, 0, 0));
+    t
+}
+
+// The calls before the measured one, the measured one, its answer, the marks that some objects have after it, and whether it
+// changed the slot of an I-PDU. Together they tell the paths of a call apart.
+struct Row {
+    name: &'static str,
+    before: Vec<Call>,
+    call: Call,
+    answer: (u32, u32),
+    marks: (Range<u32>, u32),
+    slot: (usize, bool),
+}
+
+#[rustfmt::skip]
+fn rows(large: bool) -> Vec<Row> {
+    let mut rows = Vec::new();
+    let mut row = |name, before: &[Call], call, answer, marks, slot| {
+        rows.push(Row { name, before: before.to_vec(), call, answer, marks, slot })
+    };
+    let sent = [Start, Send(0, 5)];
+    let confirmed = [Start, Send(0, 5), Confirm(0, 1)];
+    let arrived = [Start, Indication(16, 1), Indication(17, 1)];
+    let of_0 = if large { 0..4 } else { 0..1 };
+    row("refused", &[Start], Marks(u32::MAX), (1, 0), (0..1, 0), (0, false));
+    row("refused_start", &[Start], StartShort, (6, 0), (0..1, 0), (0, false));
+    row("start", &[], Start, (0, 0), (0..1, 0), (0, true));
+    row("stop", &[Start], Stop, (0, 0), (0..0, 0), (0, false));
+    row("send_request", &[Start], Send(0, 5), (0, 1), (0..1, 0), (0, true));
+    row("send_postponed", &sent, Send(0, 6), (0, 0), (0..1, 0), (0, true));
+    row("send_dropped", &[Start], Send(0, 0), (0, 0), (0..1, 0), (0, false));
+    row("initialise_send", &[Start], Initialise(0, 9), (0, 0), (0..1, 0), (0, true));
+    row("marks", &confirmed, Marks(0), (0, 2), (0..1, 2), (0, false));
+    row("clear_marks", &confirmed, ClearMarks(0), (0, 0), (0..1, 0), (0, false));
+    row("start_periodic", &[Start], StartPeriodic, (0, 0), (0..1, 0), (0, false));
+    row("stop_periodic", &[Start, StartPeriodic], StopPeriodic, (0, 0), (0..1, 0), (0, false));
+    row("confirm_good", &sent, Confirm(0, 1), (0, 0), (of_0.clone(), 2), (0, false));
+    row("confirm_not_good", &sent, Confirm(0, 0), (0, 0), (of_0, 8), (0, false));
+    if large {
+        row("send_request_big", &[Start], Send(1, 5), (0, 1), (1..2, 0), (0, true));
+        row("send_pending", &[Start], Send(2, 5), (0, 0), (2..3, 0), (0, true));
+        row("send_one_inside", &[Start], Send(12, 5), (0, 8), (122..123, 1), (3, true));
+        row("send_one_queue", &[Start], Send(16, 5), (0, 16), (123..124, 1), (4, true));
+        row("initialise_receive", &arrived, Initialise(64, 9), (0, 0), (64..65, 1), (16, false));
+        row("receive_unqueued", &arrived, Receive(64), (0, 0x35A), (64..65, 1), (16, false));
+        row("receive_queued", &arrived, Receive(72), (0, 0x35A), (72..73, 1), (17, false));
+        row("status", &arrived, Status(72), (0, 0), (72..73, 1), (17, false));
+        row("indication_8", &[Start], Indication(16, 1), (0, 0), (64..72, 1), (16, true));
+        row("indication_8_queues", &[Start], Indication(17, 1), (0, 0), (72..80, 1), (17, true));
+        row("indication_3", &[Start], Indication(31, 1), (0, 0), (119..122, 1), (31, true));
+        row("indication_not_good", &[Start], Indication(16, 0), (0, 0), (64..72, 4), (16, false));
+    }
+    rows
+}
+
+fn main() {
+    let arguments: Vec<String> = std::env::args().collect();
+    let is_large = arguments[1] == "large";
+    let t = if is_large { large() } else { case12() };
+    if arguments.len() == 2 {
+        rows(is_large).iter().for_each(|r| println!("{}", r.name));
+        return;
+    }
+    let r = rows(is_large).into_iter().find(|r| r.name == arguments[2]).expect("a row of the table");
+    let mut m = vec![0xA5u8; 8192];
+    let mut area = vec![0u8; 256];
+    for call in r.before {
+        assert_eq!(make(call, &t, &mut m, &mut area).number, 0, "a call before {}", r.name);
+    }
+    let saved = m.clone();
+    make(r.call, &t, &mut m, &mut area);
+    for _ in 0..REPETITIONS {
+        m.copy_from_slice(&saved);
+        area.fill(0);
+        let answer = measured(r.call, &t, &mut m, &mut area);
+        assert_eq!((answer.number, answer.value), r.answer, "{}", r.name);
+        for i in r.marks.0.clone() {
+            let marks = make(Marks(i), &t, &mut m, &mut area);
+            assert_eq!((marks.number, marks.value), (0, r.marks.1), "{}: marks of object {i}", r.name);
+        }
+        let slot = SLOTS + 8 * r.slot.0..SLOTS + 8 * r.slot.0 + 8;
+        assert_eq!(m[slot.clone()] != saved[slot], r.slot.1, "{}: the slot of I-PDU {}", r.name, r.slot.0);
+    }
+}

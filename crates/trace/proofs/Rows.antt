@@ -1,0 +1,90 @@
+-- What a send leaves of other objects' rows, and the frame that it hands over.
+-- Assumes nothing.
+use mathlib.Core.Bool.{Bool, true, false}
+use mathlib.Core.List.{List, _++_}
+use mathlib.Core.Logic.{_⊎_, inl, inr, ⊎-elim}
+use mathlib.Core.Path.{_≡_, refl, sym, ap, _∙_}
+use Prim.Native.Nat.{ℕ, _+_, _-_, _*_, _^_, _≤_, _<_}
+use native.Mathlib.Omega.{arith}
+use lib.Dec.{eqb}
+use lib.ListN.{length, take, replicate, length-append, length-replicate}
+use lib.Seq.{take-append-seam}
+use Rattle.memory.specs.Bytes.{part, replaced}
+use Rattle.memory.specs.Search.{pick}
+use Rattle.memory.proofs.Laws.{part-apart, part-replaced, part-length, part-front}
+use Rattle.memory.proofs.Tests.{true-or-false}
+use Rattle.bits.specs.Bits.{packed}
+use Rattle.table.specs.declared.Object.{Object}
+use Rattle.table.specs.declared.Ipdu.{Ipdu}
+use Rattle.table.specs.Records.{none}
+use Rattle.state.specs.declared.IpduState.{IpduState}
+use Rattle.state.specs.Layout.{slotAt, ipduRow, ipduState, withIpduState, objectRow, objectState}
+use Rattle.state.specs.Updates.{withWanted}
+use Rattle.state.proofs.Laws.{ipdu-keeps-objects, object-read}
+use Rattle.message.specs.Objects.{Placed, startBit, pack}
+use Rattle.message.proofs.Kept.{pack-length, pack-room, packed-slot-length}
+use Rattle.transmission.specs.Requests.{ipdu, goes, offered, handed}
+use Rattle.layer.specs.Calls.{wants, request}
+
+-- ---- packing
+
+module _ (o : Object) (v : ℕ) (m : List ℕ) (placed : Placed o m) where
+  -- packing changes no row of an object
+  pub pack-row : (j : ℕ) → objectState (pack o v m) j ≡ objectState m j
+  unfolding pack
+  pack-row j =
+      ⊎-elim
+      (λ (e : eqb (o .ipdu .0) none ≡ true). rw e)
+      (λ (e : eqb (o .ipdu .0) none ≡ false).
+      let low = placed .ipdu e in
+      let size = packed-slot-length o v m placed e in
+      rw e
+      (object-read
+      (replaced (slotAt (o .ipdu .0)) (packed (o .order) (startBit o) (o .size .0) v (part (slotAt (o .ipdu .0)) 8 m)) m) m j
+      (λ p w b.
+      part-apart (slotAt (o .ipdu .0)) (packed (o .order) (startBit o) (o .size .0) v (part (slotAt (o .ipdu .0)) 8 m)) m (objectRow j + p) w
+      (omega (arith, size, pack-room o v m placed e)) (inr (omega (arith, size, low))))))
+      (true-or-false (eqb (o .ipdu .0) none))
+
+  -- the slot holds what was packed
+  pub pack-holds : eqb (o .ipdu .0) none ≡ false
+      → part (slotAt (o .ipdu .0)) 8 (pack o v m) ≡ packed (o .order) (startBit o) (o .size .0) v (part (slotAt (o .ipdu .0)) 8 m)
+  unfolding pack
+  pack-holds e =
+      let size = packed-slot-length o v m placed e in
+      rw e
+      (rw size at
+      (part-replaced (slotAt (o .ipdu .0)) (packed (o .order) (startBit o) (o .size .0) v (part (slotAt (o .ipdu .0)) 8 m)) m
+      (omega (arith, size, pack-room o v m placed e))))
+
+-- ---- requests
+
+-- a request changes no row of an object
+pub request-row : (t : List ℕ) (o : Object) (area m : List ℕ) → Placed o m → wants t o ≡ true → (j : ℕ)
+    → objectState (request t o area m .memory) j ≡ objectState m j
+unfolding request
+request-row t o area m placed e j = rw e (ipdu-keeps-objects m (o .ipdu .0) (offered (ipdu t (o .ipdu .0)) (withWanted 1 (ipduState m (o .ipdu .0)))) room low j)
+  where
+    some : eqb (o .ipdu .0) none ≡ false
+    some = Rattle.layer.proofs.Laws.wants-some t o e
+
+    low : o .ipdu .0 < 32
+    low = placed .ipdu some
+
+    room : ipduRow (o .ipdu .0) + 16 ≤ length m
+    room = omega (arith, low, placed .long)
+
+-- the slot of the area begins with the I-PDU's bytes
+pub handed-front : (size k : ℕ) (m area : List ℕ) → size ≤ 8 → k < 32 → 256 ≤ length area → slotAt k + 8 ≤ length m
+    → part (8 * k) size (handed size k m area) ≡ part (slotAt k) size m
+unfolding handed
+handed-front size k m area few low long room =
+    let f : List ℕ = part (slotAt k) size m ++ replicate (8 - size) 0 in
+    let front : length (part (slotAt k) size m) ≡ size = part-length (slotAt k) size m (omega (arith, few, room)) in
+    let all : length (part (slotAt k) size m ++ replicate (8 - size) 0) ≡ 8 =
+    length-append (part (slotAt k) size m) (replicate (8 - size) 0) ∙ omega (arith, front, few, length-replicate {A = ℕ} (8 - size) 0) in
+    let held : part (8 * k) 8 (replaced (8 * k) (part (slotAt k) size m ++ replicate (8 - size) 0) area) ≡ part (slotAt k) size m ++ replicate (8 - size) 0 =
+    rw all at (part-replaced (8 * k) (part (slotAt k) size m ++ replicate (8 - size) 0) area (omega (arith, all, low, long))) in
+    sym (part-front (8 * k) size 8 (replaced (8 * k) (part (slotAt k) size m ++ replicate (8 - size) 0) area) few)
+    ∙ ap (take size) held
+    ∙ rw front at (take-append-seam (part (slotAt k) size m) (replicate (8 - size) 0))
