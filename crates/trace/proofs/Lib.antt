@@ -1,3 +1,4 @@
 pub mod Cases
 pub mod Refused
 pub mod Rows
+pub mod Frames

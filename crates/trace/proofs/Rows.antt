@@ -24,7 +24,9 @@ use Rattle.state.proofs.Laws.{ipdu-keeps-objects, object-read}
 use Rattle.message.specs.Objects.{Placed, startBit, pack}
 use Rattle.message.proofs.Kept.{pack-length, pack-room, packed-slot-length}
 use Rattle.transmission.specs.Requests.{ipdu, goes, offered, handed}
-use Rattle.layer.specs.Calls.{wants, request}
+use Rattle.layer.specs.Answers.{valueOf}
+use Rattle.layer.specs.Calls.{HasIpdu, wants, request}
+use Rattle.layer.proofs.Laws.{wants-some}
 
 -- ---- packing
 
@@ -66,7 +68,7 @@ unfolding request
 request-row t o area m placed e j = rw e (ipdu-keeps-objects m (o .ipdu .0) (offered (ipdu t (o .ipdu .0)) (withWanted 1 (ipduState m (o .ipdu .0)))) room low j)
   where
     some : eqb (o .ipdu .0) none ≡ false
-    some = Rattle.layer.proofs.Laws.wants-some t o e
+    some = wants-some t o e
 
     low : o .ipdu .0 < 32
     low = placed .ipdu some
@@ -88,3 +90,40 @@ handed-front size k m area few low long room =
     sym (part-front (8 * k) size 8 (replaced (8 * k) (part (slotAt k) size m ++ replicate (8 - size) 0) area) few)
     ∙ ap (take size) held
     ∙ rw front at (take-append-seam (part (slotAt k) size m) (replicate (8 - size) 0))
+
+-- what a request that was made handed over
+pub record Handed (t : List ℕ) (o : Object) (area m : List ℕ) : Type 0 where
+  pub wanted : wants t o ≡ true
+  pub frame : part (8 * (o .ipdu .0)) (ipdu t (o .ipdu .0) .length .0) (request t o area m .area)
+      ≡ part (slotAt (o .ipdu .0)) (ipdu t (o .ipdu .0) .length .0) m
+
+pub request-hands : (t : List ℕ) (o : Object) (area m : List ℕ) → Placed o m → HasIpdu t o → 256 ≤ length area
+    → (valueOf (request t o area m .answer) ≡ 0 → ⊥) → Handed t o area m
+unfolding request
+request-hands t o area m placed there long made =
+    ⊎-elim
+    (λ (w : wants t o ≡ true).
+    ⊎-elim
+    (λ (g : goes (ipdu t (o .ipdu .0)) (withWanted 1 (ipduState m (o .ipdu .0))) ≡ true).
+    let some = wants-some t o w in
+    let low = placed .ipdu some in
+    record {
+      wanted = w;
+      frame =
+          rw (w, g)
+          (handed-front (ipdu t (o .ipdu .0) .length .0) (o .ipdu .0) m area (there .few some) low long (omega (arith, low, placed .long)));
+    })
+    (λ (g : goes (ipdu t (o .ipdu .0)) (withWanted 1 (ipduState m (o .ipdu .0))) ≡ false). absurd (made (rw (w, g))))
+    (true-or-false (goes (ipdu t (o .ipdu .0)) (withWanted 1 (ipduState m (o .ipdu .0))))))
+    (λ (w : wants t o ≡ false). absurd (made (rw w)))
+    (true-or-false (wants t o))
+
+-- with or without a request, no row of an object changes
+pub request-rows : (t : List ℕ) (o : Object) (area m : List ℕ) → Placed o m → (j : ℕ)
+    → objectState (request t o area m .memory) j ≡ objectState m j
+unfolding request
+request-rows t o area m placed j =
+    ⊎-elim
+    (λ (w : wants t o ≡ true). request-row t o area m placed w j)
+    (λ (w : wants t o ≡ false). rw w)
+    (true-or-false (wants t o))
