@@ -1,11 +1,10 @@
 -- What a start writes: 8,192 bytes, whatever was there.
 -- Assumes nothing.
-use mathlib.Core.List.{List, _++_}
+use mathlib.Core.List.{List}
 use mathlib.Core.Path.{_≡_, refl, sym, ap, _∙_}
 use Prim.Native.Nat.{ℕ, _+_, _≤_, _<_}
 use native.Mathlib.Omega.{arith}
-use lib.ListN.{length, drop, replicate, length-replicate}
-use Rattle.memory.specs.Bytes.{replaced}
+use lib.ListN.{length, replicate, length-replicate}
 use Rattle.memory.specs.Search.{fold}
 use Rattle.memory.proofs.Search.{fold-keeps}
 use Rattle.table.specs.declared.Counts.{Counts}
@@ -24,11 +23,6 @@ use Rattle.layer.specs.Start.{blank, idle, firstTimer, startIpdu, unused
 pub cleared : (n : ℕ) → n ≡ memorySize → replicate n 0 ≡ blank
 unfolding blank
 cleared n e = ap (λ (k : ℕ). replicate k 0) e
-
--- the first 8,192 bytes replaced
-pub front-replaced : (f m : List ℕ) → length f ≡ memorySize → f ++ drop memorySize m ≡ replaced 0 f m
-unfolding replaced
-front-replaced f m e = let same : 0 + length f ≡ memorySize = omega (arith, e) in rw same
 
 module _ (o : Object) (i first : ℕ) (m : List ℕ) (placed : Placed o m) (room : objectRow i + 16 ≤ length m) where
   start-as-length : (d : Direction) → length (startAs d o i first m) ≡ length m

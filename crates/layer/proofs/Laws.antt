@@ -1,16 +1,18 @@
 -- What an admitted call may rely on: the table right, memory in range, area long enough; numbers that were checked exist.
 -- Assumes nothing.
 use mathlib.Core.Bool.{Bool, true, false, not, _&&_}
-use mathlib.Core.List.{List}
+use mathlib.Core.List.{List, _++_}
 use mathlib.Core.Logic.{⊎-elim}
 use mathlib.Core.Path.{_≡_, refl, sym, ap, _∙_}
 use Prim.Native.Nat.{ℕ, _+_, _*_, _≤_, _<_}
 use native.Mathlib.Omega.{arith}
 use borrow.Author.Tests.{leb-true, ltb-true, not-true}
 use lib.Dec.{leb, ltb, eqb}
-use lib.ListN.{length}
-use Rattle.memory.specs.Bytes.{Bytes}
+use lib.ListN.{length, take, drop, take-append-drop}
+use lib.Seq.{length-take-le}
+use Rattle.memory.specs.Bytes.{Bytes, part}
 use Rattle.memory.specs.Search.{pick}
+use Rattle.memory.proofs.Laws.{part-bytes}
 use Rattle.memory.proofs.Tests.{and-split, true-or-false}
 use Rattle.table.specs.declared.Counts.{Counts}
 use Rattle.table.specs.declared.Object.{Object}
@@ -29,14 +31,16 @@ use Rattle.layer.specs.declared.Admission.{Admission}
 use Rattle.layer.specs.declared.Admission.the-variants.{Admitted, Refused}
 use Rattle.layer.specs.declared.Answer.{Answer}
 use Rattle.layer.specs.declared.Answer.the-variants.{Done, WrongTable, WrongMemory, Stopped}
-use Rattle.layer.specs.Answers.{Outcome, outcome, admissionOf, admission}
+use Rattle.layer.specs.Answers.{Outcome, outcome, front, admissionOf, admission, onFront}
 use Rattle.transmission.specs.Requests.{ipdu}
 use Rattle.layer.specs.Calls.{HasIpdu, isObject, isIpdu, isTriggered, isPeriodic, wants, request, filterOf}
 
 -- ---- admitted
 
 pub record Open (t : List ℕ) (c : Counts) (m : List ℕ) (fits : Bool) : Type 0 where
-  pub ready : Ready t c m
+  pub long : memorySize ≤ length m
+  pub exact : length (front m) ≡ memorySize
+  pub ready : Ready t c (front m)
   pub area : fits ≡ true
 
 refused-not : {c : Counts} (a : Answer) → Refused a ≡ Admitted c → ⊥
@@ -44,6 +48,7 @@ refused-not a e = let z : _≡_ {A = ℕ} 0 1 = cc in omega arith
 
 module _ (t m : List ℕ) (fits : Bool) (bt : Bytes t) (bm : Bytes m) (c : Counts) where
   opened : (v : Verdict) → check t ≡ v → admissionOf v t m fits ≡ Admitted c → Open t c m fits
+  unfolding part
   opened WrongHeader h e = absurd (refused-not WrongTable e)
   opened (WrongIpdu k) h e = absurd (refused-not WrongTable e)
   opened (WrongObject i) h e = absurd (refused-not WrongTable e)
@@ -51,28 +56,44 @@ module _ (t m : List ℕ) (fits : Bool) (bt : Bytes t) (bm : Bytes m) (c : Count
       ⊎-elim
       (λ (long : (leb memorySize (length m) && fits) ≡ true).
       ⊎-elim
-      (λ (low : inRange t d m ≡ true).
+      (λ (low : inRange t d (front m) ≡ true).
       ⊎-elim
-      (λ (off : eqb (stoppedAt m) 1 ≡ true). absurd (refused-not Stopped (rw (long, low, off) at e)))
-      (λ (on : eqb (stoppedAt m) 1 ≡ false). there (and-split (leb memorySize (length m)) fits long) low (rw (long, low, on) at e))
-      (true-or-false (eqb (stoppedAt m) 1)))
-      (λ (high : inRange t d m ≡ false). absurd (refused-not WrongMemory (rw (long, high) at e)))
-      (true-or-false (inRange t d m)))
+      (λ (off : eqb (stoppedAt (front m)) 1 ≡ true). absurd (refused-not Stopped (rw (long, low, off) at e)))
+      (λ (on : eqb (stoppedAt (front m)) 1 ≡ false). there (and-split (leb memorySize (length m)) fits long) low (rw (long, low, on) at e))
+      (true-or-false (eqb (stoppedAt (front m)) 1)))
+      (λ (high : inRange t d (front m) ≡ false). absurd (refused-not WrongMemory (rw (long, high) at e)))
+      (true-or-false (inRange t d (front m))))
       (λ (short : (leb memorySize (length m) && fits) ≡ false). absurd (refused-not WrongMemory (rw short at e)))
       (true-or-false (leb memorySize (length m) && fits))
     where
-      there : (leb memorySize (length m) ≡ true) × (fits ≡ true) → inRange t d m ≡ true → Admitted d ≡ Admitted c → Open t c m fits
+      there : (leb memorySize (length m) ≡ true) × (fits ≡ true) → inRange t d (front m) ≡ true → Admitted d ≡ Admitted c → Open t c m fits
       there both low same =
           let eq : d ≡ c = cc in
+          let long = leb-true memorySize (length m) (both .0) in
+          let exact : length (front m) ≡ memorySize = length-take-le memorySize m long in
           rw (← eq)
           record {
-            ready = in-range-ready t d m (accepted-right t d h) bt (leb-true memorySize (length m) (both .0)) bm low;
+            long = long;
+            exact = exact;
+            ready = in-range-ready t d (front m) (accepted-right t d h) bt (omega (arith, exact)) (part-bytes 0 memorySize m bm) low;
             area = both .1;
           }
 
   pub admission-open : admission t m fits ≡ Admitted c → Open t c m fits
   unfolding admission
   admission-open e = opened (check t) refl e
+
+-- ---- the first 8,192 bytes, and the rest
+
+pub on-front : (call : List ℕ → Outcome) (m : List ℕ) (a : Answer) (n area : List ℕ) → outcome a n area ≡ call (front m)
+    → outcome a (n ++ drop memorySize m) area ≡ onFront call m
+on-front call m a n area e = ap (λ (o : Outcome). outcome (o .answer) (o .memory ++ drop memorySize m) (o .area)) e
+
+-- a call that changes nothing
+pub reads-front : (call : List ℕ → Outcome) (m : List ℕ) (a : Answer) (area : List ℕ) → outcome a (front m) area ≡ call (front m)
+    → outcome a m area ≡ onFront call m
+reads-front call m a area e =
+    ap (λ (n : List ℕ). outcome a n area) (sym (take-append-drop memorySize m)) ∙ on-front call m a (front m) area e
 
 -- ---- numbers that exist
 

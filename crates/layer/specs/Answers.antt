@@ -1,10 +1,10 @@
 -- Document 01, "What comes back": the number of an answer, what it returns, and what the call left of the lent bytes.
 -- Assumes nothing.
 use mathlib.Core.Bool.{Bool, true, false, _&&_}
-use mathlib.Core.List.{List, []}
+use mathlib.Core.List.{List, [], _++_}
 use Prim.Native.Nat.{ℕ}
 use lib.Dec.{leb, eqb}
-use lib.ListN.{length}
+use lib.ListN.{length, take, drop}
 use Rattle.memory.specs.Search.{pick}
 use Rattle.table.specs.declared.Counts.{Counts}
 use Rattle.table.specs.declared.Verdict.{Verdict}
@@ -50,13 +50,18 @@ pub record Outcome : Type 0 where
 abbrev pub outcome : Answer → List ℕ → List ℕ → Outcome
 outcome a m area = record { answer = a; memory = m; area = area }
 
+-- of the working memory lent, the first 8,192 bytes are used
+abbrev pub front : List ℕ → List ℕ
+front m = take memorySize m
+
 -- ---- the order of refusals: 5 for the table, 6 for memory and area, 7 for a stopped layer; what a call refuses itself comes after
 
+-- over a right table and a memory that is long enough
+abbrev pub admissionFront : Counts → List ℕ → List ℕ → Admission
+admissionFront c t m = pick (inRange t c m) (pick (eqb (stoppedAt m) 1) (Refused Stopped) (Admitted c)) (Refused WrongMemory)
+
 abbrev pub admissionOf : Verdict → List ℕ → List ℕ → Bool → Admission
-admissionOf (Accepted c) t m fits =
-    pick (leb memorySize (length m) && fits)
-    (pick (inRange t c m) (pick (eqb (stoppedAt m) 1) (Refused Stopped) (Admitted c)) (Refused WrongMemory))
-    (Refused WrongMemory)
+admissionOf (Accepted c) t m fits = pick (leb memorySize (length m) && fits) (admissionFront c t (front m)) (Refused WrongMemory)
 admissionOf WrongHeader t m fits = Refused WrongTable
 admissionOf (WrongIpdu k) t m fits = Refused WrongTable
 admissionOf (WrongObject i) t m fits = Refused WrongTable
@@ -65,7 +70,11 @@ admissionOf (WrongObject i) t m fits = Refused WrongTable
 unfoldable pub admission : List ℕ → List ℕ → Bool → Admission
 admission t m fits = admissionOf (check t) t m fits
 
+-- a call that goes on works on the first 8,192 bytes, and the rest stays
+abbrev pub onFront : (List ℕ → Outcome) → List ℕ → Outcome
+onFront call m = outcome (call (front m) .answer) (call (front m) .memory ++ drop memorySize m) (call (front m) .area)
+
 -- a refused call leaves all lent bytes
-abbrev pub follow : Admission → List ℕ → List ℕ → (Counts → Outcome) → Outcome
-follow (Admitted c) m area call = call c
+abbrev pub follow : Admission → List ℕ → List ℕ → (Counts → List ℕ → Outcome) → Outcome
+follow (Admitted c) m area call = onFront (call c) m
 follow (Refused a) m area call = outcome a m area

@@ -1,9 +1,8 @@
 -- Document 01, "Calls": what a start writes. Assumes nothing.
-use mathlib.Core.List.{List, []}
+use mathlib.Core.List.{List, [], _++_}
 use Prim.Native.Nat.{ℕ}
 use lib.Dec.{leb, eqb}
-use lib.ListN.{length, replicate}
-use Rattle.memory.specs.Bytes.{replaced}
+use lib.ListN.{length, drop, replicate}
 use Rattle.memory.specs.Search.{pick, fold}
 use Rattle.table.specs.declared.Counts.{Counts}
 use Rattle.table.specs.declared.Direction.{Direction}
@@ -74,7 +73,7 @@ started t c = fold (c .objects) (startObject t c) (fold (c .ipdus) (startIpdu t)
 
 -- start looks at the table and at the length of memory alone, and writes the first 8,192 bytes
 abbrev pub startOf : Verdict → List ℕ → List ℕ → Outcome
-startOf (Accepted c) t m = pick (leb memorySize (length m)) (outcome (Done 0) (replaced 0 (started t c) m) []) (outcome WrongMemory m [])
+startOf (Accepted c) t m = pick (leb memorySize (length m)) (outcome (Done 0) (started t c ++ drop memorySize m) []) (outcome WrongMemory m [])
 startOf WrongHeader t m = outcome WrongTable m []
 startOf (WrongIpdu k) t m = outcome WrongTable m []
 startOf (WrongObject i) t m = outcome WrongTable m []

@@ -31,17 +31,17 @@ areaSize = 256
 -- what a call over this table and working memory does
 unfoldable pub step : List ℕ → Call → List ℕ → Outcome
 step t start m = startCall t m
-step t stop m = follow (admission t m true) m [] (λ c. stopIn m)
-step t (send i value area) m = follow (admission t m (leb areaSize (length area))) m area (λ c. sendIn t c i value area m)
-step t (initialise i value) m = follow (admission t m true) m [] (λ c. initialiseIn t c i value m)
-step t (receive i) m = follow (admission t m true) m [] (λ c. receiveIn t c i m)
-step t (status i) m = follow (admission t m true) m [] (λ c. statusIn t c i m)
-step t (marks i) m = follow (admission t m true) m [] (λ c. marksIn c i m)
-step t (clearMarks i) m = follow (admission t m true) m [] (λ c. clearMarksIn c i m)
-step t startPeriodic m = follow (admission t m true) m [] (λ c. periodicIn true t c m)
-step t stopPeriodic m = follow (admission t m true) m [] (λ c. periodicIn false t c m)
-step t (indication k good bytes) m = follow (admission t m true) m [] (λ c. indicationIn t c k good bytes m)
-step t (confirm k good) m = follow (admission t m true) m [] (λ c. confirmIn t c k good m)
+step t stop m = follow (admission t m true) m [] (λ c. stopIn)
+step t (send i value area) m = follow (admission t m (leb areaSize (length area))) m area (λ c. sendIn t c i value area)
+step t (initialise i value) m = follow (admission t m true) m [] (λ c. initialiseIn t c i value)
+step t (receive i) m = follow (admission t m true) m [] (λ c. receiveIn t c i)
+step t (status i) m = follow (admission t m true) m [] (λ c. statusIn t c i)
+step t (marks i) m = follow (admission t m true) m [] (λ c. marksIn c i)
+step t (clearMarks i) m = follow (admission t m true) m [] (λ c. clearMarksIn c i)
+step t startPeriodic m = follow (admission t m true) m [] (λ c. periodicIn true t c)
+step t stopPeriodic m = follow (admission t m true) m [] (λ c. periodicIn false t c)
+step t (indication k good bytes) m = follow (admission t m true) m [] (λ c. indicationIn t c k good bytes)
+step t (confirm k good) m = follow (admission t m true) m [] (λ c. confirmIn t c k good)
 
 -- what a list of calls over one table gives, each on the working memory that the one before left
 abbrev pub run : List ℕ → List Call → List ℕ → List Outcome

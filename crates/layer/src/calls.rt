@@ -1,6 +1,7 @@
 // The calls of document 01. Each checks table, memory and numbers; a refused one changes no byte.
 use super::Admission;
 use super::Answer;
+use state::MEMORY_SIZE;
 use table::Counts;
 use table::IpduNumber;
 use table::ObjectNumber;
@@ -21,7 +22,7 @@ pub fn stop(t: &[u8], m: &mut [u8]) -> Answer
 {
     let admission = super::admit(t, m, true);
     match admission {
-        Admission::Admitted(c) => stop_checked(m),
+        Admission::Admitted(c) => stop_checked(&mut m[..MEMORY_SIZE]),
         Admission::Refused(answer) => answer,
     }
 }
@@ -33,7 +34,7 @@ pub fn send(t: &[u8], m: &mut [u8], area: &mut [u8], number: ObjectNumber, v: u3
 {
     let admission = super::admit(t, m, area.len() >= AREA_SIZE);
     match admission {
-        Admission::Admitted(c) => super::send_checked(t, c, m, area, number, v),
+        Admission::Admitted(c) => super::send_checked(t, c, &mut m[..MEMORY_SIZE], area, number, v),
         Admission::Refused(answer) => answer,
     }
 }
@@ -44,7 +45,7 @@ pub fn initialise(t: &[u8], m: &mut [u8], number: ObjectNumber, v: u32) -> Answe
 {
     let admission = super::admit(t, m, true);
     match admission {
-        Admission::Admitted(c) => super::initialise_checked(t, c, m, number, v),
+        Admission::Admitted(c) => super::initialise_checked(t, c, &mut m[..MEMORY_SIZE], number, v),
         Admission::Refused(answer) => answer,
     }
 }
@@ -55,7 +56,7 @@ pub fn receive(t: &[u8], m: &mut [u8], number: ObjectNumber) -> Answer
 {
     let admission = super::admit(t, m, true);
     match admission {
-        Admission::Admitted(c) => super::receive_checked(t, c, m, number),
+        Admission::Admitted(c) => super::receive_checked(t, c, &mut m[..MEMORY_SIZE], number),
         Admission::Refused(answer) => answer,
     }
 }
@@ -66,7 +67,7 @@ pub fn status(t: &[u8], m: &[u8], number: ObjectNumber) -> Answer
 {
     let admission = super::admit(t, m, true);
     match admission {
-        Admission::Admitted(c) => super::status_checked(t, c, m, number),
+        Admission::Admitted(c) => super::status_checked(t, c, &m[..MEMORY_SIZE], number),
         Admission::Refused(answer) => answer,
     }
 }
@@ -77,7 +78,7 @@ pub fn marks(t: &[u8], m: &[u8], number: ObjectNumber) -> Answer
 {
     let admission = super::admit(t, m, true);
     match admission {
-        Admission::Admitted(c) => super::marks_checked(t, c, m, number),
+        Admission::Admitted(c) => super::marks_checked(t, c, &m[..MEMORY_SIZE], number),
         Admission::Refused(answer) => answer,
     }
 }
@@ -88,7 +89,7 @@ pub fn clear_marks(t: &[u8], m: &mut [u8], number: ObjectNumber) -> Answer
 {
     let admission = super::admit(t, m, true);
     match admission {
-        Admission::Admitted(c) => super::clear_marks_checked(t, c, m, number),
+        Admission::Admitted(c) => super::clear_marks_checked(t, c, &mut m[..MEMORY_SIZE], number),
         Admission::Refused(answer) => answer,
     }
 }
@@ -99,7 +100,7 @@ pub fn start_periodic(t: &[u8], m: &mut [u8]) -> Answer
 {
     let admission = super::admit(t, m, true);
     match admission {
-        Admission::Admitted(c) => set_periods(t, c, m, true),
+        Admission::Admitted(c) => set_periods(t, c, &mut m[..MEMORY_SIZE], true),
         Admission::Refused(answer) => answer,
     }
 }
@@ -110,7 +111,7 @@ pub fn stop_periodic(t: &[u8], m: &mut [u8]) -> Answer
 {
     let admission = super::admit(t, m, true);
     match admission {
-        Admission::Admitted(c) => set_periods(t, c, m, false),
+        Admission::Admitted(c) => set_periods(t, c, &mut m[..MEMORY_SIZE], false),
         Admission::Refused(answer) => answer,
     }
 }
@@ -121,7 +122,14 @@ pub fn indication(t: &[u8], m: &mut [u8], number: IpduNumber, good: bool, bytes:
 {
     let admission = super::admit(t, m, true);
     match admission {
-        Admission::Admitted(c) => super::indication_checked(t, c, m, number, good, bytes),
+        Admission::Admitted(c) => super::indication_checked(
+            t,
+            c,
+            &mut m[..MEMORY_SIZE],
+            number,
+            good,
+            bytes,
+        ),
         Admission::Refused(answer) => answer,
     }
 }
@@ -132,7 +140,7 @@ pub fn confirm(t: &[u8], m: &mut [u8], number: IpduNumber, good: bool) -> Answer
 {
     let admission = super::admit(t, m, true);
     match admission {
-        Admission::Admitted(c) => super::confirm_checked(t, c, m, number, good),
+        Admission::Admitted(c) => super::confirm_checked(t, c, &mut m[..MEMORY_SIZE], number, good),
         Admission::Refused(answer) => answer,
     }
 }

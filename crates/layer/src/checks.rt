@@ -7,10 +7,13 @@ use table::IpduNumber;
 use table::ObjectNumber;
 use table::Verdict;
 ghost use mathlib.Core.Path.{_≡_};
+ghost use Prim.Native.Nat.{_≤_};
+ghost use lib.ListN.{length};
 ghost use Rattle.table.specs.declared.Verdict.the-variants.{Accepted};
 ghost use Rattle.table.specs.Check.{Shape, check};
 ghost use Rattle.table.specs.Decode.{Right};
-ghost use Rattle.layer.specs.Answers.{numberOf, valueOf, admissionOf, admission};
+ghost use Rattle.state.specs.Layout.{memorySize};
+ghost use Rattle.layer.specs.Answers.{numberOf, valueOf, admissionFront, admissionOf, admission};
 ghost use Rattle.layer.specs.Calls.{isObject, isIpdu};
 
 // Document 01's number of an answer.
@@ -68,6 +71,14 @@ fn admit_memory(t: &[u8], c: Counts, m: &[u8], fits: bool) -> Admission
     if !(long & fits) {
         return Admission::Refused(Answer::WrongMemory);
     }
+    admit_front(t, c, &m[..MEMORY_SIZE])
+}
+
+fn admit_front(t: &[u8], c: Counts, m: &[u8]) -> Admission
+    requires { ⌜ Right (now t) c ⌝ }
+    requires { ⌜ memorySize ≤ length (now m) ⌝ }
+    ensures { λ r. ⌜ r ≡ admissionFront c (now (t .entry)) (now (m .entry)) ⌝ }
+{
     if !state::in_range(t, c, m) {
         return Admission::Refused(Answer::WrongMemory);
     }

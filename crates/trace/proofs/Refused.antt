@@ -2,11 +2,11 @@
 -- marks change nothing in any case.
 -- Assumes nothing.
 use mathlib.Core.Bool.{Bool, true, false, not, _&&_}
-use mathlib.Core.List.{List, []}
-use mathlib.Core.Path.{_≡_, refl}
+use mathlib.Core.List.{List, [], _++_}
+use mathlib.Core.Path.{_≡_, refl, ap, _∙_}
 use Prim.Native.Nat.{ℕ}
 use lib.Dec.{leb, ltb, eqb}
-use lib.ListN.{length}
+use lib.ListN.{length, take, drop, take-append-drop}
 use Rattle.memory.specs.Search.{pick}
 use Rattle.table.specs.declared.Counts.{Counts}
 use Rattle.table.specs.declared.Verdict.{Verdict}
@@ -22,7 +22,7 @@ use Rattle.layer.specs.declared.Admission.{Admission}
 use Rattle.layer.specs.declared.Admission.the-variants.{Admitted, Refused}
 use Rattle.layer.specs.declared.Answer.{Answer}
 use Rattle.layer.specs.declared.Answer.the-variants.{Done, WrongId, WrongLength, Limit, NoMessage, NotRequested}
-use Rattle.layer.specs.Answers.{Outcome, outcome, numberOf, admission, follow}
+use Rattle.layer.specs.Answers.{Outcome, outcome, numberOf, front, admission, follow}
 use Rattle.layer.specs.Start.{startOf, startCall}
 use Rattle.layer.specs.Calls.{isObject, isIpdu, stopIn, wants, request, sendOf, sendIn, initialiseIn, limited, receiveIn, statusIn, marksIn, clearMarksIn, periodicIn, indicationIn, confirmIn}
 use Rattle.layer.specs.Step.{Call, start, stop, send, initialise, receive, status, marks, clearMarks, startPeriodic, stopPeriodic, indication, confirm, areaSize, step}
@@ -105,9 +105,12 @@ confirm-leaves t c k good m =
 
 -- ---- any call
 
-follow-leaves : (a : Admission) (m area : List ℕ) (f : Counts → Outcome) → ((c : Counts) → Leaves m area (f c)) → Leaves m area (follow a m area f)
-follow-leaves (Admitted c) m area f p = p c
-follow-leaves (Refused a) m area f p = same a m area
+follow-leaves : (a : Admission) (m area : List ℕ) (f : Counts → List ℕ → Outcome) → ((c : Counts) → Leaves (front m) area (f c (front m)))
+    → Leaves m area (follow a m area f)
+follow-leaves (Admitted c) m area f p done limit =
+    let u = p c done limit in
+    record { memory = ap (λ (n : List ℕ). n ++ drop memorySize m) (u .memory) ∙ take-append-drop memorySize m; area = u .area }
+follow-leaves (Refused a) m area f p done limit = record { memory = refl; area = refl }
 
 start-leaves : (v : Verdict) (t m : List ℕ) → Leaves m [] (startOf v t m)
 start-leaves (Accepted c) t m = either (leb memorySize (length m)) m [] _ _ (did 0 m [] _ _) (same _ m [])
@@ -119,40 +122,43 @@ pub refused-leaves : (t : List ℕ) (call : Call) (m : List ℕ) → (numberOf (
     → (numberOf (step t call m .answer) ≡ 3 → ⊥) → Unchanged m (areaOf call) (step t call m)
 unfolding step startCall stopIn initialiseIn marksIn clearMarksIn periodicIn statusIn
 refused-leaves t start m = start-leaves (check t) t m
-refused-leaves t stop m = follow-leaves (admission t m true) m [] _ (λ c. did 0 m [] _ [])
-refused-leaves t (send i v area) m = follow-leaves (admission t m (leb areaSize (length area))) m area _ (λ c. send-leaves t c i v area m)
+refused-leaves t stop m = follow-leaves (admission t m true) m [] _ (λ c. did 0 (front m) [] _ [])
+refused-leaves t (send i v area) m = follow-leaves (admission t m (leb areaSize (length area))) m area _ (λ c. send-leaves t c i v area (front m))
 refused-leaves t (initialise i v) m =
-    follow-leaves (admission t m true) m [] _ (λ c. either (ltb i (c .objects)) m [] _ _ (did 0 m [] _ []) (same WrongId m []))
-refused-leaves t (receive i) m = follow-leaves (admission t m true) m [] _ (λ c. receive-leaves t c i m)
+    follow-leaves (admission t m true) m [] _ (λ c. either (ltb i (c .objects)) (front m) [] _ _ (did 0 (front m) [] _ []) (same WrongId (front m) []))
+refused-leaves t (receive i) m = follow-leaves (admission t m true) m [] _ (λ c. receive-leaves t c i (front m))
 refused-leaves t (status i) m =
     follow-leaves (admission t m true) m [] _
     (λ c.
-    either (isObject t c 2 i && not (eqb (objectRecord t (c .ipdus) i .depth) 0)) m [] _ _ (same _ m []) (same WrongId m []))
+    either (isObject t c 2 i && not (eqb (objectRecord t (c .ipdus) i .depth) 0)) (front m) [] _ _ (same _ (front m) []) (same WrongId (front m) []))
 refused-leaves t (marks i) m =
-    follow-leaves (admission t m true) m [] _ (λ c. either (ltb i (c .objects)) m [] _ _ (same _ m []) (same WrongId m []))
+    follow-leaves (admission t m true) m [] _ (λ c. either (ltb i (c .objects)) (front m) [] _ _ (same _ (front m) []) (same WrongId (front m) []))
 refused-leaves t (clearMarks i) m =
-    follow-leaves (admission t m true) m [] _ (λ c. either (ltb i (c .objects)) m [] _ _ (did 0 m [] _ []) (same WrongId m []))
-refused-leaves t startPeriodic m = follow-leaves (admission t m true) m [] _ (λ c. did 0 m [] _ [])
-refused-leaves t stopPeriodic m = follow-leaves (admission t m true) m [] _ (λ c. did 0 m [] _ [])
-refused-leaves t (indication k good bytes) m = follow-leaves (admission t m true) m [] _ (λ c. indication-leaves t c k good bytes m)
-refused-leaves t (confirm k good) m = follow-leaves (admission t m true) m [] _ (λ c. confirm-leaves t c k good m)
+    follow-leaves (admission t m true) m [] _ (λ c. either (ltb i (c .objects)) (front m) [] _ _ (did 0 (front m) [] _ []) (same WrongId (front m) []))
+refused-leaves t startPeriodic m = follow-leaves (admission t m true) m [] _ (λ c. did 0 (front m) [] _ [])
+refused-leaves t stopPeriodic m = follow-leaves (admission t m true) m [] _ (λ c. did 0 (front m) [] _ [])
+refused-leaves t (indication k good bytes) m = follow-leaves (admission t m true) m [] _ (λ c. indication-leaves t c k good bytes (front m))
+refused-leaves t (confirm k good) m = follow-leaves (admission t m true) m [] _ (λ c. confirm-leaves t c k good (front m))
 
 -- a status that answers 3 changes nothing either
 module _ (t m : List ℕ) (i : ℕ) where
-  reads-only : (a : Admission) (f : Counts → Outcome) → ((c : Counts) → Unchanged m [] (f c)) → Unchanged m [] (follow a m [] f)
-  reads-only (Admitted c) f p = p c
+  reads-only : (a : Admission) (f : Counts → List ℕ → Outcome) → ((c : Counts) → Unchanged (front m) [] (f c (front m)))
+      → Unchanged m [] (follow a m [] f)
+  reads-only (Admitted c) f p =
+      let u = p c in
+      record { memory = ap (λ (n : List ℕ). n ++ drop memorySize m) (u .memory) ∙ take-append-drop memorySize m; area = u .area }
   reads-only (Refused a) f p = record { memory = refl; area = refl }
 
-  unread : (b : Bool) (x y : Answer) → Unchanged m [] (pick b (outcome x m []) (outcome y m []))
+  unread : (b : Bool) (x y : Answer) → Unchanged (front m) [] (pick b (outcome x (front m) []) (outcome y (front m) []))
   unread true x y = record { memory = refl; area = refl }
   unread false x y = record { memory = refl; area = refl }
 
   pub status-reads : Unchanged m [] (step t (status i) m)
   unfolding step statusIn
   status-reads =
-      reads-only (admission t m true) (λ c. statusIn t c i m)
+      reads-only (admission t m true) (λ c. statusIn t c i)
       (λ c. unread (isObject t c 2 i && not (eqb (objectRecord t (c .ipdus) i .depth) 0)) _ _)
 
   pub marks-reads : Unchanged m [] (step t (marks i) m)
   unfolding step marksIn
-  marks-reads = reads-only (admission t m true) (λ c. marksIn c i m) (λ c. unread (ltb i (c .objects)) _ _)
+  marks-reads = reads-only (admission t m true) (λ c. marksIn c i) (λ c. unread (ltb i (c .objects)) _ _)

@@ -4,12 +4,15 @@ use borrow.Author.Needs.{needs}
 use Rattle.layer.proofs.calls.send.Statement.{statement}
 use mathlib.Core.Path.{_≡_, refl, sym, ap, _∙_}
 use mathlib.Core.Bool.{Bool, true, false, not, _&&_}
+use mathlib.Core.List.{List, []}
+use Prim.Native.Nat.{ℕ}
 use native.Mathlib.Omega.{arith}
 use lib.Dec.{leb}
 use lib.ListN.{length}
 use borrow.Author.Tests.{leb-true}
-use Rattle.layer.proofs.Laws.{Open, admission-open}
+use Rattle.layer.proofs.Laws.{Open, admission-open, on-front, reads-front}
 use Rattle.layer.specs.Step.{step}
+use Rattle.layer.specs.Calls.{sendIn}
 use Rattle.layer.proofs.calls.send.Tie as tie
 use Rattle.layer.proofs.checks.admit.Reads as admit-reads
 use Rattle.layer.proofs.sending.send_checked.Reads as send-checked-reads
@@ -19,6 +22,16 @@ admit-requires c κs = search needs
 
 enum-known-admission : tie.Need-enum-known-admission
 enum-known-admission c = search needs
+
+slice-relend-prefix-send-checked : tie.Need-slice-relend-prefix-send-checked
+slice-relend-prefix-send-checked c =
+    let o = admission-open (c .before .before .before .before .before .before .before .before .args .t .now) (c .before .before .before .before .before .before .before .before .args .m .now) (leb 256 (length (c .before .before .before .before .before .before .before .before .args .area .now))) (λ i. c .before .before .before .before .before .before .before .shared-slice-known .given i .fits) (λ i. c .before .before .before .before .before .before .slice-known .given i .fits) _ (sym (c .before .before .before .admit .ensures) ∙ c .before .admission .given .1) in
+    o .long
+
+slice-aggregate-send-checked : tie.Need-slice-aggregate-send-checked
+slice-aggregate-send-checked c =
+    let o = admission-open (c .before .before .before .before .before .before .before .before .before .args .t .now) (c .before .before .before .before .before .before .before .before .before .args .m .now) (leb 256 (length (c .before .before .before .before .before .before .before .before .before .args .area .now))) (λ i. c .before .before .before .before .before .before .before .before .shared-slice-known .given i .fits) (λ i. c .before .before .before .before .before .before .before .slice-known .given i .fits) _ (sym (c .before .before .before .before .admit .ensures) ∙ c .before .before .admission .given .1) in
+    sym (o .exact)
 
 send-checked-requires : tie.Need-send-checked-requires
 send-checked-requires c κs =
@@ -36,7 +49,7 @@ same-length-2 c = search needs
 
 returns : tie.Need-returns
 unfolding step
-returns c = rw (sym (c .before .before .before .before .before .before .before .before .before .before .admit .ensures) ∙ c .before .before .before .before .before .before .before .before .admission .given .1) (c .before .before .before .before .send-checked .ensures)
+returns c = rw (sym (c .before .before .before .before .before .before .before .before .before .before .admit .ensures) ∙ c .before .before .before .before .before .before .before .before .admission .given .1) (on-front (sendIn (c .before .before .before .before .before .before .before .before .before .before .before .before .before .before .before .args .t .now) (c .before .before .before .before .before .before .before .before .admission .given .0 .0) (c .before .before .before .before .before .before .before .before .before .before .before .before .before .before .before .args .number .0) (c .before .before .before .before .before .before .before .before .before .before .before .before .before .before .before .args .v) (c .before .before .before .before .before .before .before .before .before .before .before .before .before .before .before .args .area .now)) (c .before .before .before .before .before .before .before .before .before .before .before .before .before .before .before .args .m .now) _ _ _ (c .before .before .before .before .send-checked .ensures))
 
 same-length-3 : tie.Need-same-length-3
 same-length-3 c = search needs
@@ -51,6 +64,8 @@ send-spec =
     (tie.spec
     admit-requires
     enum-known-admission
+    slice-relend-prefix-send-checked
+    slice-aggregate-send-checked
     send-checked-requires
     enum-known-admission-2
     same-length

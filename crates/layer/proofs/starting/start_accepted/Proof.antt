@@ -10,7 +10,6 @@ use lib.ListN.{length, take, drop}
 use lib.Seq.{length-take-le}
 use Rattle.layer.specs.declared.Answer.the-variants.{Done}
 use Rattle.layer.specs.Answers.{Outcome, outcome}
-use Rattle.layer.proofs.Fresh.{front-replaced, started-length}
 use Rattle.layer.specs.Start.{started}
 use Rattle.layer.proofs.starting.start_accepted.Statement.{statement}
 use Rattle.layer.proofs.starting.start_accepted.Tie as tie
@@ -41,8 +40,7 @@ returns-2 : tie.Need-returns-2
 returns-2 c =
     rw (le-leb _ _ (c .before .before .before .before .if1 .left))
     (ap (λ (m : List ℕ). outcome (Done 0) m [])
-    (ap (λ (f : List ℕ). f ++ drop 8192 (c .before .before .before .before .before .before .before .args .m .now)) (c .before .before .write-all .ensures)
-    ∙ front-replaced (started (c .before .before .before .before .before .before .before .args .t .now) (c .before .before .before .before .before .before .before .args .c)) (c .before .before .before .before .before .before .before .args .m .now) (started-length (c .before .before .before .before .before .before .before .args .t .now) (c .before .before .before .before .before .before .before .args .c) (c .before .before .before .before .before .before .before .pre))))
+    (ap (λ (f : List ℕ). f ++ drop 8192 (c .before .before .before .before .before .before .before .args .m .now)) (c .before .before .write-all .ensures)))
 
 pub start-accepted-spec : {M : Type 1} → statement M
 start-accepted-spec =
