@@ -61,7 +61,7 @@ object-kept depth first s f e =
       queue = eqb-true (s .queue) first (a4 .1);
     }
 
-kept-object : (depth first : ℕ) (s : ObjectState) → ObjectKept depth first s → objectInRange depth first s ≡ true
+pub kept-object : (depth first : ℕ) (s : ObjectState) → ObjectKept depth first s → objectInRange depth first s ≡ true
 unfolding objectInRange
 kept-object depth first s k =
     rw (

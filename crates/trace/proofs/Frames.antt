@@ -100,37 +100,37 @@ module _ (t : List ℕ) (c : Counts) (m : List ℕ) (ready : Ready t c m) (i : �
 
 module _ (t : List ℕ) (c : Counts) (m : List ℕ) (ready : Ready t c m) (i : ℕ) (is : isObject t c 1 i ≡ true) (v : ℕ) (small : v < 2 ^ 32)
     (area : List ℕ) where
-  here : i < c .objects
+  pub here : i < c .objects
   here = object-there t c 1 i is
 
   -- working memory after internal delivery, and after the filtering
-  abbrev inner : List ℕ
+  abbrev pub inner : List ℕ
   inner = deliverInside t c i v m
 
-  abbrev judge : Bool
+  abbrev pub judge : Bool
   judge = lets (object t c i) v (objectState (deliverInside t c i v m) i)
 
-  abbrev after : List ℕ
+  abbrev pub after : List ℕ
   after = withObjectState inner i (filtered judge v (objectState inner i))
 
-  inner-ready : Ready t c (deliverInside t c i v m)
+  pub inner-ready : Ready t c (deliverInside t c i v m)
   unfolding deliverInside
   inner-ready = ready-inside t c i v (c .objects) small (omega arith) m ready
 
-  after-ready : Ready t c (withObjectState inner i (filtered judge v (objectState inner i)))
+  pub after-ready : Ready t c (withObjectState inner i (filtered judge v (objectState inner i)))
   after-ready =
       ready-object t c inner inner-ready i here (filtered judge v (objectState inner i))
       (kept-filtered (objectRecord t (c .ipdus) i .depth) (Rattle.table.specs.Check.depths t c i) judge v (objectState inner i) small (ready-kept t c inner inner-ready i here))
 
-  placed-after : Placed (object t c i) (withObjectState inner i (filtered judge v (objectState inner i)))
+  pub placed-after : Placed (object t c i) (withObjectState inner i (filtered judge v (objectState inner i)))
   placed-after = right-placed t c after (after-ready .right) (after-ready .long) i here
 
-  packed-placed : Placed (object t c i) (pack (object t c i) v (withObjectState inner i (filtered judge v (objectState inner i))))
+  pub packed-placed : Placed (object t c i) (pack (object t c i) v (withObjectState inner i (filtered judge v (objectState inner i))))
   packed-placed =
       right-placed t c (pack (object t c i) v after) (after-ready .right)
       (omega (arith, after-ready .long, pack-length (object t c i) v after placed-after)) i here
 
-  sent-as : (b : Bool) → judge ≡ b
+  pub sent-as : (b : Bool) → judge ≡ b
       → sendIn t c i v area m ≡ pick b (request t (object t c i) area (pack (object t c i) v after)) (outcome (Done 0) after area)
   unfolding sendIn sendOf
   sent-as b p = rw is (ap (λ (x : Bool). pick x (request t (object t c i) area (pack (object t c i) v after)) (outcome (Done 0) after area)) p)

@@ -2,3 +2,5 @@ pub mod Cases
 pub mod Refused
 pub mod Rows
 pub mod Frames
+pub mod Ranges
+pub mod Begin

@@ -93,7 +93,7 @@ send-kept p s d e =
       timer = eqb-true _ _ (a7 .1);
     }
 
-kept-send : (p : Ipdu) (s : IpduState) → p .direction ≡ Send → SendKept p s → ipduInRange p s ≡ true
+pub kept-send : (p : Ipdu) (s : IpduState) → p .direction ≡ Send → SendKept p s → ipduInRange p s ≡ true
 unfolding ipduInRange
 kept-send p s d k =
     rw (
@@ -326,7 +326,7 @@ receive-kept p s d e =
       timer = leb-true _ _ (a6 .1);
     }
 
-kept-receive : (p : Ipdu) (s : IpduState) → p .direction ≡ Receive → ReceiveKept p s → ipduInRange p s ≡ true
+pub kept-receive : (p : Ipdu) (s : IpduState) → p .direction ≡ Receive → ReceiveKept p s → ipduInRange p s ≡ true
 unfolding ipduInRange
 kept-receive p s d k =
     rw (d, k .requested, k .wanted, k .running, k .delay, k .deadline, k .countdown)
