@@ -167,7 +167,7 @@ module _ (t : List ℕ) (c : Counts) (m : List ℕ) (ready : Ready t c m) (i : �
       let q = in-queues t c m ready i h in
       record {
         number = omega (arith, h, ready .right .shape .objects);
-        long = ready .long;
+        long = omega (arith, ready .long);
         few = q .depth;
         count = kept .count;
         head = kept .head;
@@ -179,7 +179,7 @@ module _ (t : List ℕ) (c : Counts) (m : List ℕ) (ready : Ready t c m) (i : �
   ready-period = usable t c (ready .right) i h .filter
 
   pub ready-placed : Placed (object t c i) m
-  ready-placed = right-placed t c m (ready .right) (ready .long) i h
+  ready-placed = right-placed t c m (ready .right) (omega (arith, ready .long)) i h
 
   -- packing keeps the ranges
   pub ready-pack : (v : ℕ) → Ready t c (pack (object t c i) v m)

@@ -190,7 +190,7 @@ module _ (t : List ℕ) (c : Counts) (m : List ℕ) (ready : Ready t c m) where
 
 -- ---- what was found in range, and back
 
-pub in-range-ready : (t : List ℕ) (c : Counts) (m : List ℕ) → Right t c → Bytes t → memorySize ≤ length m → Bytes m
+pub in-range-ready : (t : List ℕ) (c : Counts) (m : List ℕ) → Right t c → Bytes t → length m ≡ memorySize → Bytes m
     → inRange t c m ≡ true → Ready t c m
 unfolding inRange
 in-range-ready t c m right bt long bm e =

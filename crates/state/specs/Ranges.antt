@@ -63,11 +63,11 @@ objectOut t c m i = not (objectInRange (objectRecord t (c .ipdus) i .depth) (dep
 unfoldable pub inRange : List ℕ → Counts → List ℕ → Bool
 inRange t c m = leb (stoppedAt m) 1 && not (any (c .ipdus) (ipduOut t m)) && not (any (c .objects) (objectOut t c m))
 
--- what a call works on: a table that was accepted, and a working memory that was found in range
+-- what a call works on: a table that was accepted, and 8,192 bytes of working memory that were found in range
 pub record Ready (t : List ℕ) (c : Counts) (m : List ℕ) : Type 0 where
   pub right : Right t c
   pub tables : Bytes t
-  pub long : memorySize ≤ length m
+  pub long : length m ≡ memorySize
   pub bytes : Bytes m
   pub stopped : leb (stoppedAt m) 1 ≡ true
   pub ipdus : (k : ℕ) → k < c .ipdus → ipduInRange (ipduOf (ipduRecord t k)) (ipduState m k) ≡ true

@@ -123,7 +123,7 @@ module _ (t : List ℕ) (c : Counts) (m : List ℕ) (ready : Ready t c m) (i : �
       (kept-filtered (objectRecord t (c .ipdus) i .depth) (Rattle.table.specs.Check.depths t c i) judge v (objectState inner i) small (ready-kept t c inner inner-ready i here))
 
   pub placed-after : Placed (object t c i) (withObjectState inner i (filtered judge v (objectState inner i)))
-  placed-after = right-placed t c after (after-ready .right) (after-ready .long) i here
+  placed-after = right-placed t c after (after-ready .right) (omega (arith, after-ready .long)) i here
 
   pub packed-placed : Placed (object t c i) (pack (object t c i) v (withObjectState inner i (filtered judge v (objectState inner i))))
   packed-placed =

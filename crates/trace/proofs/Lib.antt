@@ -4,3 +4,4 @@ pub mod Rows
 pub mod Frames
 pub mod Ranges
 pub mod Begin
+pub mod Never

@@ -36,7 +36,7 @@ slice-aggregate-set-periods c =
 set-periods-requires : tie.Need-set-periods-requires
 set-periods-requires c κs =
     let o = admission-open (c .before .before .before .before .before .before .before .before .args .t .now) (c .before .before .before .before .before .before .before .before .args .m .now) true (λ i. c .before .before .before .before .before .before .before .shared-slice-known .given i .fits) (λ i. c .before .before .before .before .before .before .slice-known .given i .fits) _ (sym (c .before .before .before .before .admit .ensures) ∙ c .before .before .admission .given .1) in
-    (o .ready .right .shape, o .ready .long)
+    (o .ready .right .shape, omega (arith, o .ready .long))
 
 enum-known-admission-2 : tie.Need-enum-known-admission-2
 enum-known-admission-2 c = search needs

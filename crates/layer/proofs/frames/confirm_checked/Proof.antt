@@ -40,7 +40,7 @@ decode-ipdu-requires : tie.Need-decode-ipdu-requires
 decode-ipdu-requires c κs = omega (arith, ipdu-there (c .before .before .before .before .before .before .before .before .before .args .t .now) (c .before .before .before .before .before .before .before .before .before .args .c) 1 (c .before .before .before .before .before .before .before .before .before .args .number .0) (sym (c .before .before .before .before .before .before .is-ipdu .ensures) ∙ not-false _ (c .before .before .before .before .before .if1 .left)), c .before .before .before .before .before .before .before .before .before .pre .right .shape .long)
 
 confirm-requires : tie.Need-confirm-requires
-confirm-requires c κs = (omega (arith, ipdu-there (c .before .before .before .before .before .before .before .before .before .before .args .t .now) (c .before .before .before .before .before .before .before .before .before .before .args .c) 1 (c .before .before .before .before .before .before .before .before .before .before .args .number .0) (sym (c .before .before .before .before .before .before .before .is-ipdu .ensures) ∙ not-false _ (c .before .before .before .before .before .before .if1 .left)), c .before .before .before .before .before .before .before .before .before .before .pre .right .shape .ipdus), c .before .before .before .before .before .before .before .before .before .before .pre .long)
+confirm-requires c κs = (omega (arith, ipdu-there (c .before .before .before .before .before .before .before .before .before .before .args .t .now) (c .before .before .before .before .before .before .before .before .before .before .args .c) 1 (c .before .before .before .before .before .before .before .before .before .before .args .number .0) (sym (c .before .before .before .before .before .before .before .is-ipdu .ensures) ∙ not-false _ (c .before .before .before .before .before .before .if1 .left)), c .before .before .before .before .before .before .before .before .before .before .pre .right .shape .ipdus), omega (arith, c .before .before .before .before .before .before .before .before .before .before .pre .long))
 
 confirm-mark-requires : tie.Need-confirm-mark-requires
 confirm-mark-requires c κs = search needs
