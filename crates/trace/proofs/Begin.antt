@@ -160,8 +160,8 @@ module _ (t : List ℕ) (c : Counts) (right : Right t c) (bt : Bytes t) where
             bytes = ipdu-bytes m n s (b .bytes);
             stopped = ap value (ipdu-part m n s room 0 1 (inl (omega arith))) ∙ b .stopped;
             ipdus = below-suc {P = λ (k : ℕ). ipduInRange (ipdu t k) (ipduState (withIpduState m n s) k) ≡ true}
-              (λ k low. rw (ipdu-other m n s room k (λ e. absurd (omega (arith, low, e)))) (b .ipdus k low))
-              (rw (ipdu-stored m n s room (idle-fits _ (timer-fits (ipdu t n) (times t n bt) (ipdu t n .direction)))) (idle-range (ipdu t n) (ipdu t n .direction) refl));
+                (λ k low. rw (ipdu-other m n s room k (λ e. absurd (omega (arith, low, e)))) (b .ipdus k low))
+                (rw (ipdu-stored m n s room (idle-fits _ (timer-fits (ipdu t n) (times t n bt) (ipdu t n .direction)))) (idle-range (ipdu t n) (ipdu t n .direction) refl));
           }
 
   -- packing leaves what is no slot
@@ -221,12 +221,12 @@ module _ (t : List ℕ) (c : Counts) (right : Right t c) (bt : Bytes t) where
           bytes = object-bytes l n s bs;
           stopped = ap value (object-part l n s there 0 1 (inl (omega arith)) ∙ low 0 1 (omega arith)) ∙ b .stopped;
           ipdus = λ k few.
-            rw (object-keeps-ipdus l n s there k (omega (arith, few, right .shape .ipdus)) ∙ ipdu-read l m k (λ o w e. low (ipduRow k + o) w (omega (arith, e, few, right .shape .ipdus))))
-            (b .ipdus k few);
+              rw (object-keeps-ipdus l n s there k (omega (arith, few, right .shape .ipdus)) ∙ ipdu-read l m k (λ o w e. low (ipduRow k + o) w (omega (arith, e, few, right .shape .ipdus))))
+              (b .ipdus k few);
           objects = below-suc {P = λ (i : ℕ). objectInRange (objectRecord t (c .ipdus) i .depth) (depths t c i) (objectState (withObjectState l n (unused v (object t c n .initial) (depths t c n))) i) ≡ true}
-            (λ i few. rw (object-other l n s there i (λ e. absurd (omega (arith, few, e))) ∙ rows i) (b .objects i few))
-            (rw (object-stored l n s there (unused-fits v (object t c n .initial) (depths t c n) small initial-fits queue-low))
-            (unused-range (objectRecord t (c .ipdus) n .depth) v (object t c n .initial) (depths t c n) small initial-fits));
+              (λ i few. rw (object-other l n s there i (λ e. absurd (omega (arith, few, e))) ∙ rows i) (b .objects i few))
+              (rw (object-stored l n s there (unused-fits v (object t c n .initial) (depths t c n) small initial-fits queue-low))
+              (unused-range (objectRecord t (c .ipdus) n .depth) v (object t c n .initial) (depths t c n) small initial-fits));
         }
 
     set-more : (d : Direction) → Set (suc n) (startAs d (object t c n) n (depths t c n) m)
