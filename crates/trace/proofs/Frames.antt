@@ -73,12 +73,12 @@ copied-trip o start size f m at some few fits there =
 -- ---- an object of a right table
 
 module _ (t : List ℕ) (c : Counts) (m : List ℕ) (ready : Ready t c m) (i : ℕ) (h : i < c .objects) where
-  start-bit : startBit (object t c i) ≡ objectRecord t (c .ipdus) i .start
+  pub start-bit : startBit (object t c i) ≡ objectRecord t (c .ipdus) i .start
   unfolding objectOf
   start-bit =
       position-twice (orderOf (objectRecord t (c .ipdus) i .order)) (objectRecord t (c .ipdus) i .start) (usable t c (ready .right) i h .start)
 
-  room-there : eqb (objectRecord t (c .ipdus) i .ipdu) none ≡ false
+  pub room-there : eqb (objectRecord t (c .ipdus) i .ipdu) none ≡ false
       → room (object t c i .order) (startBit (object t c i)) (object t c i .size .0) (ipduRecord t (objectRecord t (c .ipdus) i .ipdu) .length) ≡ true
   unfolding objectOf
   room-there some =
@@ -89,11 +89,11 @@ module _ (t : List ℕ) (c : Counts) (m : List ℕ) (ready : Ready t c m) (i : �
   unfolding ipduOf
   room-placed some = room-there some
 
-  size-some : 0 < object t c i .size .0
+  pub size-some : 0 < object t c i .size .0
   unfolding objectOf
   size-some = usable t c (ready .right) i h .slot .some
 
-  low-ipdu : eqb (objectRecord t (c .ipdus) i .ipdu) none ≡ false → objectRecord t (c .ipdus) i .ipdu < c .ipdus
+  pub low-ipdu : eqb (objectRecord t (c .ipdus) i .ipdu) none ≡ false → objectRecord t (c .ipdus) i .ipdu < c .ipdus
   low-ipdu some = usable t c (ready .right) i h .ipdu some .0
 
 -- ---- send

@@ -5,3 +5,4 @@ pub mod Frames
 pub mod Ranges
 pub mod Begin
 pub mod Never
+pub mod Agree

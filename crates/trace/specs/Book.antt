@@ -1,0 +1,98 @@
+-- Document 01, "Demand 3's book": what it holds and how a call changes it. It is fed the table and the calls' arguments alone; of a
+-- request area it sees the length, of working memory nothing. Assumes nothing.
+use mathlib.Core.Bool.{Bool, true, false, not, _&&_, _||_}
+use mathlib.Core.List.{List, [], _∷_}
+use Prim.Native.Nat.{ℕ, _+_, _%_}
+use lib.Dec.{leb, ltb, eqb}
+use lib.ListN.{length}
+use Rattle.memory.specs.Search.{pick, least, fold}
+use Rattle.bits.specs.Bits.{bit, place, owns}
+use Rattle.filter.specs.Filters.{passes, filterOf}
+use Rattle.table.specs.declared.Counts.{Counts}
+use Rattle.table.specs.declared.ObjectRecord.{ObjectRecord}
+use Rattle.table.specs.Records.{objectRecord}
+use Rattle.table.specs.Rules.{orderOf}
+use Rattle.layer.specs.Step.{Call, start, stop, send, initialise, receive, status, marks, clearMarks, startPeriodic, stopPeriodic, indication, confirm, areaSize}
+
+-- an entry: a send object and a value that it kept
+pub record Entry : Type 0 where
+  pub object : ℕ
+  pub value : ℕ
+
+-- a row of entries, the latest first, a count for each send object, and stopped or not
+pub record Book : Type 0 where
+  pub entries : List Entry
+  pub counts : ℕ → ℕ
+  pub stopped : Bool
+
+abbrev pub enter : ℕ → ℕ → List Entry → List Entry
+enter i v es = record { object = i; value = v } ∷ es
+
+-- there is a send object of this number
+abbrev pub sends : List ℕ → Counts → ℕ → Bool
+sends t c i = ltb i (c .objects) && eqb (objectRecord t (c .ipdus) i .kind) 1
+
+-- ---- start: an entry for each send object by rising number, with its initial value; counts 0, not stopped
+
+abbrev pub openEntry : List ℕ → Counts → ℕ → List Entry → List Entry
+openEntry t c i es = pick (eqb (objectRecord t (c .ipdus) i .kind) 1) (enter i (objectRecord t (c .ipdus) i .initial) es) es
+
+abbrev pub opened : List ℕ → Counts → Book
+opened t c = record { entries = fold (c .objects) (openEntry t c) []; counts = λ i. 0; stopped = false }
+
+-- ---- send: old is the value of the object's last entry; the filter judges new, old and count; the count goes on as under Filters;
+-- passed, the whole value makes an entry, else it is dropped
+
+abbrev pub lastOf : ℕ → List Entry → ℕ
+lastOf i [] = 0
+lastOf i (e ∷ es) = pick (eqb (e .object) i) (e .value) (lastOf i es)
+
+abbrev pub judges : ObjectRecord → ℕ → ℕ → ℕ → Bool
+judges r new old count = passes (filterOf (r .filter) (r .first) (r .second)) new old count
+
+abbrev pub keeps : List ℕ → Counts → Book → ℕ → ℕ → Bool
+keeps t c b i v = judges (objectRecord t (c .ipdus) i) v (lastOf i (b .entries)) (b .counts i)
+
+abbrev pub counted : ℕ → (ℕ → ℕ) → ℕ → ℕ
+counted i counts j = pick (eqb j i) ((counts j + 1) % 256) (counts j)
+
+abbrev pub sent : List ℕ → Counts → Book → ℕ → ℕ → Book
+sent t c b i v =
+    record {
+      entries = pick (keeps t c b i v) (enter i v (b .entries)) (b .entries);
+      counts = counted i (b .counts);
+      stopped = b .stopped;
+    }
+
+-- ---- a call; a refused one leaves the book alone
+
+unfoldable pub advance : List ℕ → Counts → Book → Call → Book
+advance t c b start = opened t c
+advance t c b stop = record { entries = b .entries; counts = b .counts; stopped = true }
+advance t c b (send i v area) = pick (leb areaSize (length area) && not (b .stopped) && sends t c i) (sent t c b i v) b
+advance t c b (initialise i v) =
+    pick (not (b .stopped) && sends t c i) (record { entries = enter i v (b .entries); counts = b .counts; stopped = b .stopped }) b
+advance t c b (receive i) = b
+advance t c b (status i) = b
+advance t c b (marks i) = b
+advance t c b (clearMarks i) = b
+advance t c b startPeriodic = b
+advance t c b stopPeriodic = b
+advance t c b (indication k good bytes) = b
+advance t c b (confirm k good) = b
+
+-- ---- frames
+
+-- the object owns bit p of I-PDU k: its message bits go there
+abbrev pub ownsBit : ObjectRecord → ℕ → ℕ → Bool
+ownsBit r k p = eqb (r .ipdu) k && owns (orderOf (r .order)) (r .start) (r .size) p
+
+-- the message bit that goes to bit p
+abbrev pub messageBit : ObjectRecord → ℕ → ℕ → ℕ
+messageBit r v p = bit v (least (r .size) (λ n. eqb (place (orderOf (r .order)) (r .start) n) p))
+
+-- bit p of I-PDU k: that of the value of the last entry of an owner; any other bit is 0
+abbrev pub bookBit : List ℕ → Counts → List Entry → ℕ → ℕ → ℕ
+bookBit t c [] k p = 0
+bookBit t c (e ∷ es) k p =
+    pick (ownsBit (objectRecord t (c .ipdus) (e .object)) k p) (messageBit (objectRecord t (c .ipdus) (e .object)) (e .value) p) (bookBit t c es k p)
