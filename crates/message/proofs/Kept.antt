@@ -199,37 +199,27 @@ module _ (t : List ℕ) (c : Counts) (m : List ℕ) (ready : Ready t c m) (i : �
       o : Object
       o = object t c i
 
+  -- a value in the queue, or not
+  pub ready-queued : (v : ℕ) (b : Bool)
+      → Ready t c (pick b (replaced (placeAt (object t c i .depth) (objectState m i) (objectState m i .count)) (bytesOf 4 v) m) m)
+  unfolding objectOf
+  ready-queued v true =
+      let room = queue-room (object t c i .depth) i m ready-held .room (objectState m i .count) (ready-kept t c m ready i h .count) in
+      ready-bytes t c m ready (placeAt (object t c i .depth) (objectState m i) (objectState m i .count)) (bytesOf 4 v) (bytesOf-bytes 4 v)
+      (omega (arith, room, bytesOf-length 4 v)) (inr (omega arith))
+  ready-queued v false = ready
+
   -- delivery keeps the ranges
   pub ready-deliver : (v : ℕ) → v < 2 ^ 32 → Ready t c (deliver (object t c i) i v m)
   unfolding deliver objectOf
   ready-deliver v low =
-      ready-object t c (queued passed) (queued-ready passed) i h
-      (delivered passed (object t c i .depth) v (objectState m i))
-      (kept-delivered (objectRecord t (c .ipdus) i .depth) (depths t c i) passed v (objectState m i) low (ready-kept t c m ready i h))
-    where
-      passed : Bool
-      passed = lets (object t c i) v (objectState m i)
-
-      at : ℕ
-      at = placeAt (object t c i .depth) (objectState m i) (objectState m i .count)
-
-      queued : Bool → List ℕ
-      queued b =
-          pick (enters b (object t c i .depth) (objectState m i))
-          (replaced (placeAt (object t c i .depth) (objectState m i) (objectState m i .count)) (bytesOf 4 v) m) m
-
-      there : Ready t c (replaced (placeAt (object t c i .depth) (objectState m i) (objectState m i .count)) (bytesOf 4 v) m)
-      there =
-          let room = queue-room (object t c i .depth) i m ready-held .room (objectState m i .count) (ready-kept t c m ready i h .count) in
-          ready-bytes t c m ready (placeAt (object t c i .depth) (objectState m i) (objectState m i .count)) (bytesOf 4 v) (bytesOf-bytes 4 v)
-          (omega (arith, room, bytesOf-length 4 v)) (inr (omega arith))
-
-      queued-ready : (b : Bool) → Ready t c (queued b)
-      queued-ready b = choose (enters b (object t c i .depth) (objectState m i))
-        where
-          choose : (e : Bool) → Ready t c (pick e (replaced (placeAt (object t c i .depth) (objectState m i) (objectState m i .count)) (bytesOf 4 v) m) m)
-          choose true = there
-          choose false = ready
+      ready-object t c
+      (pick (enters (lets (object t c i) v (objectState m i)) (object t c i .depth) (objectState m i))
+      (replaced (placeAt (object t c i .depth) (objectState m i) (objectState m i .count)) (bytesOf 4 v) m) m)
+      (ready-queued v (enters (lets (object t c i) v (objectState m i)) (object t c i .depth) (objectState m i))) i h
+      (delivered (lets (object t c i) v (objectState m i)) (object t c i .depth) v (objectState m i))
+      (kept-delivered (objectRecord t (c .ipdus) i .depth) (depths t c i) (lets (object t c i) v (objectState m i)) v (objectState m i) low
+      (ready-kept t c m ready i h))
 
 -- ---- turns, and all of them
 

@@ -6,3 +6,4 @@ pub mod Ranges
 pub mod Begin
 pub mod Never
 pub mod Agree
+pub mod Unseen

@@ -271,23 +271,22 @@ periods r right has =
         let a2 = and-split (eqb (r .mode) 0 && eqb (r .period) 0) (eqb (r .offset) 0) (a3 .0) in
         eqb-true (r .mode) 0 (and-split (eqb (r .mode) 0) (eqb (r .period) 0) (a2 .0) .0)
 
+pub ready-period-turn : (t : List ℕ) (c : Counts) (on : Bool) (k : ℕ) → k < c .ipdus → (m : List ℕ) → Ready t c m → Ready t c (periodTurn on t k m)
+unfolding ipduOf
+ready-period-turn t c on k below m ready =
+    ⊎-elim
+    (λ (e : hasPeriod (ipdu t k .mode) ≡ true).
+    let facts = periods (ipduRecord t k) (ready .right .ipdus k below) e in
+    let d : ipdu t k .direction ≡ Send = rw (facts .sent) in
+    rw e
+    (ready-send t c m ready k below d (periodSet on (ipdu t k) (ipduState m k))
+    (kept-period on (ipdu t k) (ipduState m k) (omega (arith, facts .some)) (ready-send-kept t c m ready k below d))))
+    (λ (e : hasPeriod (ipdu t k .mode) ≡ false). rw e ready)
+    (true-or-false (hasPeriod (ipdu t k .mode)))
+
 pub ready-periods : (t : List ℕ) (c : Counts) (on : Bool) (n : ℕ) → n ≤ c .ipdus → (m : List ℕ) → Ready t c m
     → Ready t c (fold n (periodTurn on t) m)
-unfolding ipduOf
-ready-periods t c on n h = fold-keeps (Ready t c) n (periodTurn on t) turn
-  where
-    turn : (k : ℕ) → k < n → (m : List ℕ) → Ready t c m → Ready t c (periodTurn on t k m)
-    turn k b m ready =
-        ⊎-elim
-        (λ (e : hasPeriod (ipdu t k .mode) ≡ true).
-        let below : k < c .ipdus = omega (arith, b, h) in
-        let facts = periods (ipduRecord t k) (ready .right .ipdus k below) e in
-        let d : ipdu t k .direction ≡ Send = rw (facts .sent) in
-        rw e
-        (ready-send t c m ready k below d (periodSet on (ipdu t k) (ipduState m k))
-        (kept-period on (ipdu t k) (ipduState m k) (omega (arith, facts .some)) (ready-send-kept t c m ready k below d))))
-        (λ (e : hasPeriod (ipdu t k .mode) ≡ false). rw e ready)
-        (true-or-false (hasPeriod (ipdu t k .mode)))
+ready-periods t c on n h = fold-keeps (Ready t c) n (periodTurn on t) (λ k b. ready-period-turn t c on k (omega (arith, b, h)))
 
 -- ---- a receive I-PDU: its timer alone
 

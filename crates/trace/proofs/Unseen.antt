@@ -1,0 +1,167 @@
+-- What the book of demand 3 does not see: internal delivery, delivery of a frame, marks, periods, and the rows of I-PDUs.
+-- Assumes nothing.
+use mathlib.Core.Bool.{Bool, true, false, not, _&&_, _||_}
+use mathlib.Core.List.{List, []}
+use mathlib.Core.Logic.{_⊎_, inl, inr, ⊎-elim}
+use mathlib.Core.Path.{_≡_, refl, sym, ap, _∙_}
+use Prim.Native.Nat.{ℕ, _+_, _-_, _*_, _^_, _≤_, _<_}
+use native.Mathlib.Omega.{arith}
+use borrow.Author.Tests.{eqb-true, eqb-false, eq-eqb, ne-eqb}
+use lib.Dec.{leb, ltb, eqb}
+use lib.ListN.{length}
+use Rattle.memory.specs.Bytes.{bytesOf, replaced}
+use Rattle.memory.specs.Search.{pick, fold}
+use Rattle.memory.proofs.Laws.{bytesOf-length}
+use Rattle.memory.proofs.Search.{fold-keeps}
+use Rattle.memory.proofs.Tests.{and-split, true-or-false, true-not-false}
+use Rattle.table.specs.declared.Counts.{Counts}
+use Rattle.table.specs.declared.ObjectRecord.{ObjectRecord}
+use Rattle.table.specs.Records.{none, ipduRecord, objectRecord}
+use Rattle.table.specs.Rules.{references, sendObject, receiveObject}
+use Rattle.table.specs.Check.{depths}
+use Rattle.table.specs.Decode.{objectOf}
+use Rattle.table.proofs.Accepted.{Usable, usable}
+use Rattle.table.proofs.Facts.{ObjectFacts, object-facts}
+use Rattle.state.specs.declared.ObjectState.{ObjectState}
+use Rattle.state.specs.Layout.{objectState, withObjectState, ipduState, withIpduState}
+use Rattle.state.specs.Ranges.{Ready}
+use Rattle.state.proofs.Ready.{ObjectKept, ready-kept, ready-object}
+use Rattle.message.specs.Objects.{object, lets, placeAt, enters, marked, delivered, deliver, unpack}
+use Rattle.message.specs.Delivery.{insideTurn, deliverInside, frameTurn, deliverFrame, markTurn, markObjects}
+use Rattle.message.proofs.Laws.{queue-room}
+use Rattle.message.proofs.Kept.{kept-marked, kept-delivered, picked, ready-held, ready-deliver, ready-queued, unpack-lt}
+use Rattle.transmission.specs.Requests.{ipdu, hasPeriod, periodSet, periodTurn, setPeriods}
+use Rattle.transmission.proofs.Kept.{ready-period-turn}
+use Rattle.trace.proofs.Agree.{Same, same-refl, same-trans, same-object, same-ipdu, same-queue}
+
+-- ---- a send object has no sending object
+
+or-cases : (a b : Bool) → (a || b) ≡ true → (a ≡ true) ⊎ (b ≡ true)
+or-cases true b e = inl refl
+or-cases false b e = inr e
+
+pub send-no-sender : (t : List ℕ) (c : Counts) (m : List ℕ) → Ready t c m → (i : ℕ) → i < c .objects → objectRecord t (c .ipdus) i .kind ≡ 1
+    → objectRecord t (c .ipdus) i .sender ≡ 255
+send-no-sender t c m ready i h one =
+    ⊎-elim
+    (λ (e : sendObject (objectRecord t (c .ipdus) i) ≡ true).
+    eqb-true (objectRecord t (c .ipdus) i .sender) 255
+    (and-split (eqb (objectRecord t (c .ipdus) i .kind) 1) (eqb (objectRecord t (c .ipdus) i .sender) none)
+    (and-split (eqb (objectRecord t (c .ipdus) i .kind) 1 && eqb (objectRecord t (c .ipdus) i .sender) none) (eqb (objectRecord t (c .ipdus) i .depth) 0) e .0) .1))
+    (λ (e : receiveObject (objectRecord t (c .ipdus) i) ≡ true).
+    let two : objectRecord t (c .ipdus) i .kind ≡ 2 =
+    eqb-true (objectRecord t (c .ipdus) i .kind) 2
+    (and-split (eqb (objectRecord t (c .ipdus) i .kind) 2) (eqb (objectRecord t (c .ipdus) i .transfer) 0)
+    (and-split (eqb (objectRecord t (c .ipdus) i .kind) 2 && eqb (objectRecord t (c .ipdus) i .transfer) 0)
+    (eqb (objectRecord t (c .ipdus) i .ipdu) none || eqb (objectRecord t (c .ipdus) i .sender) none) e .0) .0) in
+    absurd (omega (arith, one, two)))
+    (or-cases (sendObject (objectRecord t (c .ipdus) i)) (receiveObject (objectRecord t (c .ipdus) i))
+    (object-facts (objectRecord t (c .ipdus) i) (references t c (objectRecord t (c .ipdus) i)) (ready .right .objects i h) .kinds))
+
+module _ (t : List ℕ) (c : Counts) where
+  -- a memory in range that the book cannot tell from m
+  pub record Unseen (m n : List ℕ) : Type 0 where
+    pub ready : Ready t c n
+    pub same : Same t c m n
+
+  pub unseen-then : (l m n : List ℕ) → Unseen l m → Unseen m n → Unseen l n
+  unseen-then l m n a b = record { ready = b .ready; same = same-trans t c l m n (a .same) (b .same) }
+
+  -- turns that the book does not see
+  pub unseen-fold : (n : ℕ) (turn : ℕ → List ℕ → List ℕ) → ((k : ℕ) → k < n → (l : List ℕ) → Ready t c l → Unseen l (turn k l))
+      → (m : List ℕ) → Ready t c m → Unseen m (fold n turn m)
+  unseen-fold n turn each m ready =
+      fold-keeps (Unseen m) n turn (λ k h l u. unseen-then m l (turn k l) u (each k h l (u .ready))) m
+      (record { ready = ready; same = same-refl t c m })
+
+  -- a delivery to an object that is not sent
+  unseen-deliver : (i v : ℕ) → i < c .objects → (objectRecord t (c .ipdus) i .kind ≡ 1 → ⊥) → v < 2 ^ 32 → (m : List ℕ) → Ready t c m
+      → Unseen m (deliver (object t c i) i v m)
+  unfolding deliver objectOf
+  unseen-deliver i v h received small m ready =
+      record {
+        ready = ready-deliver t c m ready i h v small;
+        same = same-trans t c m (queued e) (withObjectState (queued e) i row) (queue-same e) (same-object t c (queued e) (ready-queued t c m ready i h v e) i h row kept (λ k. absurd (received k)) (λ k. absurd (received k)));
+      }
+    where
+      e : Bool
+      e = enters (lets (object t c i) v (objectState m i)) (object t c i .depth) (objectState m i)
+
+      queued : Bool → List ℕ
+      queued b = pick b (replaced (placeAt (object t c i .depth) (objectState m i) (objectState m i .count)) (bytesOf 4 v) m) m
+
+      row : ObjectState
+      row = delivered (lets (object t c i) v (objectState m i)) (object t c i .depth) v (objectState m i)
+
+      kept : ObjectKept (objectRecord t (c .ipdus) i .depth) (depths t c i) (delivered (lets (object t c i) v (objectState m i)) (object t c i .depth) v (objectState m i))
+      kept = kept-delivered (objectRecord t (c .ipdus) i .depth) (depths t c i) (lets (object t c i) v (objectState m i)) v (objectState m i) small (ready-kept t c m ready i h)
+
+      queue-same : (b : Bool) → Same t c m (pick b (replaced (placeAt (object t c i .depth) (objectState m i) (objectState m i .count)) (bytesOf 4 v) m) m)
+      queue-same true =
+          let room = queue-room (object t c i .depth) i m (ready-held t c m ready i h) .room (objectState m i .count) (ready-kept t c m ready i h .count) in
+          same-queue t c m ready (placeAt (object t c i .depth) (objectState m i) (objectState m i .count)) (bytesOf 4 v) (omega (arith, room, bytesOf-length 4 v)) (omega arith)
+      queue-same false = same-refl t c m
+
+  unseen-pick : (b : Bool) (m n : List ℕ) → Ready t c m → (b ≡ true → Unseen m n) → Unseen m (pick b n m)
+  unseen-pick true m n ready u = u refl
+  unseen-pick false m n ready u = record { ready = ready; same = same-refl t c m }
+
+  -- internal delivery
+  pub unseen-inside : (i v : ℕ) → i < c .objects → v < 2 ^ 32 → (m : List ℕ) → Ready t c m → Unseen m (deliverInside t c i v m)
+  unfolding deliverInside
+  unseen-inside i v h small =
+      unseen-fold (c .objects) (insideTurn t c i v)
+      (λ j b l r.
+      unseen-pick (eqb (objectRecord t (c .ipdus) j .sender) i) l (deliver (object t c j) j v l) r
+      (λ e.
+      unseen-deliver j v b
+      (λ one. omega (arith, send-no-sender t c l r j b one, eqb-true (objectRecord t (c .ipdus) j .sender) i e, h, r .right .shape .objects)) small l r))
+
+  -- delivery of a frame of a receive I-PDU
+  pub unseen-frame : (k : ℕ) → k < c .ipdus → ipduRecord t k .direction ≡ 2 → (m : List ℕ) → Ready t c m → Unseen m (deliverFrame t c k m)
+  unfolding deliverFrame
+  unseen-frame k h two =
+      unseen-fold (c .objects) (frameTurn t c k)
+      (λ j b l r.
+      unseen-pick (eqb (objectRecord t (c .ipdus) j .ipdu) k) l (deliver (object t c j) j (unpack (object t c j) l) l) r
+      (λ e. unseen-deliver j (unpack (object t c j) l) b (received j b l r (eqb-true (objectRecord t (c .ipdus) j .ipdu) k e)) (unpack-lt t c l r j b) l r))
+    where
+      received : (j : ℕ) → j < c .objects → (l : List ℕ) → Ready t c l → objectRecord t (c .ipdus) j .ipdu ≡ k → objectRecord t (c .ipdus) j .kind ≡ 1 → ⊥
+      received j b l r e one =
+          let some : eqb (objectRecord t (c .ipdus) j .ipdu) none ≡ false =
+          ne-eqb (objectRecord t (c .ipdus) j .ipdu) none (λ z. absurd (omega (arith, z, e, h, r .right .shape .ipdus))) in
+          let direction : ipduRecord t (objectRecord t (c .ipdus) j .ipdu) .direction ≡ objectRecord t (c .ipdus) j .kind = usable t c (r .right) j b .ipdu some .1 in
+          let there : ipduRecord t (objectRecord t (c .ipdus) j .ipdu) .direction ≡ 2 = ap (λ (n : ℕ). ipduRecord t n .direction) e ∙ two in
+          omega (arith, direction, there, one)
+
+  -- marks
+  pub unseen-mark : (k mark : ℕ) → mark ≤ 15 → (m : List ℕ) → Ready t c m → Unseen m (markObjects t c k mark m)
+  unfolding markObjects marked
+  unseen-mark k mark low =
+      unseen-fold (c .objects) (markTurn t c k mark)
+      (λ j b l r.
+      unseen-pick (eqb (objectRecord t (c .ipdus) j .ipdu) k) l (withObjectState l j (marked mark (objectState l j))) r
+      (λ e.
+      let kept = kept-marked (objectRecord t (c .ipdus) j .depth) (depths t c j) mark (objectState l j) low (ready-kept t c l r j b) in
+      record {
+        ready = ready-object t c l r j b (marked mark (objectState l j)) kept;
+        same = same-object t c l r j b (marked mark (objectState l j)) kept (λ one. refl) (λ one. refl);
+      }))
+
+  -- the row of an I-PDU
+  pub unseen-ipdu : (k : ℕ) → k < c .ipdus → (s : Rattle.state.specs.declared.IpduState.IpduState) → (m : List ℕ) → Ready t c m
+      → Ready t c (withIpduState m k s) → Unseen m (withIpduState m k s)
+  unseen-ipdu k h s m ready next = record { ready = next; same = same-ipdu t c m ready k h s }
+
+  -- periods
+  pub unseen-periods : (on : Bool) (m : List ℕ) → Ready t c m → Unseen m (setPeriods on t c m)
+  unfolding setPeriods
+  unseen-periods on =
+      unseen-fold (c .ipdus) (periodTurn on t)
+      (λ k b l r.
+      unseen-pick (hasPeriod (ipdu t k .mode)) l (withIpduState l k (periodSet on (ipdu t k) (ipduState l k))) r
+      (λ e. unseen-ipdu k b (periodSet on (ipdu t k) (ipduState l k)) l r (turn-ready k b l r e)))
+    where
+      turn-ready : (k : ℕ) → k < c .ipdus → (l : List ℕ) → Ready t c l → hasPeriod (ipdu t k .mode) ≡ true
+          → Ready t c (withIpduState l k (periodSet on (ipdu t k) (ipduState l k)))
+      turn-ready k b l r e = rw e at (ready-period-turn t c on k b l r)
