@@ -7,3 +7,4 @@ pub mod Begin
 pub mod Never
 pub mod Agree
 pub mod Unseen
+pub mod Kept

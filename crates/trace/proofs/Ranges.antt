@@ -124,7 +124,7 @@ module _ (t : List ℕ) (c : Counts) where
         let same : ipduRecord t (objectRecord t (c .ipdus) i .ipdu) .direction ≡ 1 = usable t c (ready .right) i h .ipdu some .1 ∙ one in
         rw same
 
-    request-ready : (area : List ℕ) → isObject t c 1 i ≡ true → Ready t c (request t (object t c i) area m .memory)
+    pub request-ready : (area : List ℕ) → isObject t c 1 i ≡ true → Ready t c (request t (object t c i) area m .memory)
     unfolding request objectOf
     request-ready area is =
         either (wants t (object t c i)) _ _

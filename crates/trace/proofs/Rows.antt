@@ -9,7 +9,7 @@ use native.Mathlib.Omega.{arith}
 use lib.Dec.{eqb}
 use lib.ListN.{length, take, replicate, length-append, length-replicate}
 use lib.Seq.{take-append-seam}
-use Rattle.memory.specs.Bytes.{part, replaced}
+use Rattle.memory.specs.Bytes.{value, part, get, replaced}
 use Rattle.memory.specs.Search.{pick}
 use Rattle.memory.proofs.Laws.{part-apart, part-replaced, part-length, part-front}
 use Rattle.memory.proofs.Tests.{true-or-false}
@@ -18,7 +18,7 @@ use Rattle.table.specs.declared.Object.{Object}
 use Rattle.table.specs.declared.Ipdu.{Ipdu}
 use Rattle.table.specs.Records.{none}
 use Rattle.state.specs.declared.IpduState.{IpduState}
-use Rattle.state.specs.Layout.{slotAt, ipduRow, ipduState, withIpduState, objectRow, objectState}
+use Rattle.state.specs.Layout.{stoppedAt, slotAt, ipduRow, ipduState, withIpduState, objectRow, objectState}
 use Rattle.state.specs.Updates.{withWanted}
 use Rattle.state.proofs.Laws.{ipdu-keeps-objects, object-read}
 use Rattle.message.specs.Objects.{Placed, startBit, pack}
@@ -46,6 +46,19 @@ module _ (o : Object) (v : ℕ) (m : List ℕ) (placed : Placed o m) where
       (λ p w b.
       part-apart (slotAt (o .ipdu .0)) (packed (o .order) (startBit o) (o .size .0) v (part (slotAt (o .ipdu .0)) 8 m)) m (objectRow j + p) w
       (omega (arith, size, pack-room o v m placed e)) (inr (omega (arith, size, low))))))
+      (true-or-false (eqb (o .ipdu .0) none))
+
+  -- packing leaves the byte of a stopped layer
+  pub pack-front : stoppedAt (pack o v m) ≡ stoppedAt m
+  unfolding pack stoppedAt get
+  pack-front =
+      ⊎-elim
+      (λ (e : eqb (o .ipdu .0) none ≡ true). rw e)
+      (λ (e : eqb (o .ipdu .0) none ≡ false).
+      rw e
+      (ap value
+      (part-apart (slotAt (o .ipdu .0)) (packed (o .order) (startBit o) (o .size .0) v (part (slotAt (o .ipdu .0)) 8 m)) m 0 1
+      (omega (arith, packed-slot-length o v m placed e, pack-room o v m placed e)) (inl (omega arith)))))
       (true-or-false (eqb (o .ipdu .0) none))
 
   -- the slot holds what was packed

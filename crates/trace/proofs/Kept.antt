@@ -1,0 +1,129 @@
+-- Send and initialise keep working memory in agreement with the book of demand 3.
+-- Assumes nothing.
+use mathlib.Core.Bool.{Bool, true, false, not, _&&_}
+use mathlib.Core.List.{List, [], _∷_}
+use mathlib.Core.Logic.{_⊎_, inl, inr, ⊎-elim}
+use mathlib.Core.Path.{_≡_, refl, sym, ap, ap₂, _∙_}
+use Prim.Native.Nat.{ℕ, _+_, _-_, _*_, _%_, _^_, _≤_, _<_}
+use native.Mathlib.Omega.{arith}
+use borrow.Author.Tests.{eqb-true, eqb-false, eq-eqb, ne-eqb, ltb-true}
+use lib.Dec.{ltb, eqb}
+use lib.ListN.{length}
+use Rattle.memory.specs.Bytes.{value, part, get}
+use Rattle.memory.specs.Search.{pick}
+use Rattle.memory.proofs.Tests.{and-split, eq-or-ne, true-or-false}
+use Rattle.bits.specs.Bits.{frameBit}
+use Rattle.filter.specs.Filters.{passes}
+use Rattle.table.specs.declared.Counts.{Counts}
+use Rattle.table.specs.declared.Direction.{Direction}
+use Rattle.table.specs.declared.Direction.the-variants.{Send, Receive}
+use Rattle.table.specs.declared.Object.{Object}
+use Rattle.table.specs.Records.{none, ipduRecord, objectRecord}
+use Rattle.table.specs.Check.{depths}
+use Rattle.table.specs.Decode.{objectOf}
+use Rattle.table.proofs.Accepted.{Usable, usable}
+use Rattle.state.specs.declared.ObjectState.{ObjectState}
+use Rattle.state.specs.Layout.{stoppedAt, slotAt, objectRow, objectState, withObjectState, ipduState, withIpduState}
+use Rattle.state.specs.Updates.{withOld, withValue, withQueue, withWanted}
+use Rattle.state.specs.Ranges.{Ready}
+use Rattle.state.proofs.Laws.{object-part, object-stored, object-other}
+use Rattle.state.proofs.Ready.{ObjectKept, kept-fits, object-row, ready-kept, ready-object}
+use Rattle.message.specs.Objects.{object, Placed, lets, filtered, pack, initialiseAs, initialise}
+use Rattle.message.proofs.Kept.{kept-filtered, ready-pack, ready-placed}
+use Rattle.transmission.specs.Requests.{ipdu, offered}
+use Rattle.layer.specs.Answers.{Outcome, outcome}
+use Rattle.layer.specs.Calls.{isObject, wants, request, sendIn}
+use Rattle.layer.proofs.Laws.{wants-some}
+use Rattle.trace.specs.Book.{Entry, Book, enter, sends, lastOf, keeps, counted, sent, bookBit}
+use Rattle.trace.proofs.Rows.{pack-row, pack-front}
+use Rattle.trace.proofs.Frames.{here, inner, judge, after, inner-ready, after-ready, sent-as}
+use Rattle.trace.proofs.Ranges.{request-ready}
+use Rattle.trace.proofs.Agree.{Same, same-refl, same-ipdu, Agrees, agrees-same, pack-bits}
+use Rattle.trace.proofs.Unseen.{Unseen, unseen-inside}
+
+-- ---- a row of a send object set, and perhaps its value packed
+
+module _ (t : List ℕ) (c : Counts) (m : List ℕ) (ready : Ready t c m) (i : ℕ) (h : i < c .objects) (s : ObjectState)
+    (kept : ObjectKept (objectRecord t (c .ipdus) i .depth) (depths t c i) s) where
+  room : objectRow i + 16 ≤ length m
+  room = object-row t c m ready i h
+
+  pub row-own : objectState (withObjectState m i s) i ≡ s
+  row-own = object-stored m i s room (kept-fits t c m ready i h s kept)
+
+  pub row-other : (j : ℕ) → (j ≡ i → ⊥) → objectState (withObjectState m i s) j ≡ objectState m j
+  row-other j ne = object-other m i s room j ne
+
+  pub row-slot : (k : ℕ) → k < c .ipdus → part (slotAt k) 8 (withObjectState m i s) ≡ part (slotAt k) 8 m
+  row-slot k low = object-part m i s room (slotAt k) 8 (inl (omega (arith, low, ready .right .shape .ipdus)))
+
+  pub row-stopped : stoppedAt (withObjectState m i s) ≡ stoppedAt m
+  unfolding stoppedAt get
+  row-stopped = ap value (object-part m i s room 0 1 (inl (omega arith)))
+
+-- ---- the book's side
+
+last-own : (i v : ℕ) (es : List Entry) → lastOf i (enter i v es) ≡ v
+last-own i v es = rw (eq-eqb i i refl)
+
+last-other : (i j v : ℕ) (es : List Entry) → (j ≡ i → ⊥) → lastOf j (enter i v es) ≡ lastOf j es
+last-other i j v es ne = rw (ne-eqb i j (λ e. ne (sym e)))
+
+-- ---- an entry: the row's old value set, and the value packed
+
+module _ (t : List ℕ) (c : Counts) (b : Book) (m : List ℕ) (a : Agrees t c b m) (i : ℕ) (h : i < c .objects) (v : ℕ) (s : ObjectState)
+    (kept : ObjectKept (objectRecord t (c .ipdus) i .depth) (depths t c i) s) where
+  -- with old set to the value
+  pub agrees-entry : (n : ℕ → ℕ) → s .old ≡ v → s .occurrence ≡ n i → ((j : ℕ) → (j ≡ i → ⊥) → n j ≡ b .counts j)
+      → Agrees t c (record { entries = enter i v (b .entries); counts = n; stopped = b .stopped }) (pack (object t c i) v (withObjectState m i s))
+  agrees-entry n old count others =
+      record {
+        ready = ready-pack t c next next-ready i h v;
+        stopped = pack-stopped ∙ row-stopped t c m (a .ready) i h s kept ∙ a .stopped;
+        old = λ j low one.
+          ap (λ (x : ObjectState). x .old) (pack-row (object t c i) v next (ready-placed t c next next-ready i h) j)
+          ∙ ⊎-elim
+          (λ (e : j ≡ i). rw e (ap (λ (x : ObjectState). x .old) (row-own t c m (a .ready) i h s kept) ∙ old ∙ sym (last-own i v (b .entries))))
+          (λ (ne : j ≡ i → ⊥).
+          ap (λ (x : ObjectState). x .old) (row-other t c m (a .ready) i h s kept j ne) ∙ a .old j low one ∙ sym (last-other i j v (b .entries) ne))
+          (eq-or-ne j i);
+        count = λ j low one.
+          ap (λ (x : ObjectState). x .occurrence) (pack-row (object t c i) v next (ready-placed t c next next-ready i h) j)
+          ∙ ⊎-elim
+          (λ (e : j ≡ i). rw e (ap (λ (x : ObjectState). x .occurrence) (row-own t c m (a .ready) i h s kept) ∙ count))
+          (λ (ne : j ≡ i → ⊥).
+          ap (λ (x : ObjectState). x .occurrence) (row-other t c m (a .ready) i h s kept j ne) ∙ a .count j low one ∙ sym (others j ne))
+          (eq-or-ne j i);
+        bits = pack-bits t c (b .entries) next next-ready i v h
+          (λ k low d p few. rw (row-slot t c m (a .ready) i h s kept k low) (a .bits k low d p few));
+      }
+    where
+      next : List ℕ
+      next = withObjectState m i s
+
+      next-ready : Ready t c (withObjectState m i s)
+      next-ready = ready-object t c m (a .ready) i h s kept
+
+      pack-stopped : stoppedAt (pack (object t c i) v next) ≡ stoppedAt next
+      pack-stopped = pack-front (object t c i) v next (ready-placed t c next next-ready i h)
+
+  -- a dropped value: the row's count alone
+  pub agrees-dropped : (n : ℕ → ℕ) → s .old ≡ objectState m i .old → s .occurrence ≡ n i → ((j : ℕ) → (j ≡ i → ⊥) → n j ≡ b .counts j)
+      → Agrees t c (record { entries = b .entries; counts = n; stopped = b .stopped }) (withObjectState m i s)
+  agrees-dropped n old count others =
+      record {
+        ready = ready-object t c m (a .ready) i h s kept;
+        stopped = row-stopped t c m (a .ready) i h s kept ∙ a .stopped;
+        old = λ j low one.
+          ⊎-elim
+          (λ (e : j ≡ i). rw e (ap (λ (x : ObjectState). x .old) (row-own t c m (a .ready) i h s kept) ∙ old ∙ a .old i h (rw e at one)))
+          (λ (ne : j ≡ i → ⊥). ap (λ (x : ObjectState). x .old) (row-other t c m (a .ready) i h s kept j ne) ∙ a .old j low one)
+          (eq-or-ne j i);
+        count = λ j low one.
+          ⊎-elim
+          (λ (e : j ≡ i). rw e (ap (λ (x : ObjectState). x .occurrence) (row-own t c m (a .ready) i h s kept) ∙ count))
+          (λ (ne : j ≡ i → ⊥).
+          ap (λ (x : ObjectState). x .occurrence) (row-other t c m (a .ready) i h s kept j ne) ∙ a .count j low one ∙ sym (others j ne))
+          (eq-or-ne j i);
+        bits = λ k low d p few. rw (row-slot t c m (a .ready) i h s kept k low) (a .bits k low d p few);
+      }
