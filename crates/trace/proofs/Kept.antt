@@ -127,3 +127,99 @@ module _ (t : List ℕ) (c : Counts) (b : Book) (m : List ℕ) (a : Agrees t c b
           (eq-or-ne j i);
         bits = λ k low d p few. rw (row-slot t c m (a .ready) i h s kept k low) (a .bits k low d p few);
       }
+
+-- ---- send
+
+filtered-passed : (b : Bool) (v : ℕ) (s : ObjectState) → b ≡ true → filtered b v s .old ≡ v
+unfolding filtered
+filtered-passed b v s e = rw e
+
+filtered-dropped : (b : Bool) (v : ℕ) (s : ObjectState) → b ≡ false → filtered b v s .old ≡ s .old
+unfolding filtered
+filtered-dropped b v s e = rw e
+
+filtered-count : (b : Bool) (v : ℕ) (s : ObjectState) → filtered b v s .occurrence ≡ (s .occurrence + 1) % 256
+unfolding filtered
+filtered-count true v s = refl
+filtered-count false v s = refl
+
+module _ (t : List ℕ) (c : Counts) (b : Book) (m : List ℕ) (a : Agrees t c b m) (i : ℕ) (is : isObject t c 1 i ≡ true) (v : ℕ) (small : v < 2 ^ 32)
+    (area : List ℕ) where
+  low : i < c .objects
+  low = here t c m (a .ready) i is v small area
+
+  one : objectRecord t (c .ipdus) i .kind ≡ 1
+  one = eqb-true (objectRecord t (c .ipdus) i .kind) 1 (and-split (ltb i (c .objects)) (eqb (objectRecord t (c .ipdus) i .kind) 1) is .1)
+
+  abbrev first : List ℕ
+  first = inner t c m (a .ready) i is v small area
+
+  abbrev row : ObjectState
+  row = filtered (judge t c m (a .ready) i is v small area) v (objectState first i)
+
+  first-agrees : Agrees t c b (inner t c m (a .ready) i is v small area)
+  first-agrees =
+      let u = unseen-inside t c i v low small m (a .ready) in
+      agrees-same t c b m first a (u .ready) (u .same)
+
+  row-kept : ObjectKept (objectRecord t (c .ipdus) i .depth) (depths t c i) (filtered (judge t c m (a .ready) i is v small area) v (objectState first i))
+  row-kept =
+      kept-filtered (objectRecord t (c .ipdus) i .depth) (depths t c i) (judge t c m (a .ready) i is v small area) v (objectState first i) small
+      (ready-kept t c first (first-agrees .ready) i low)
+
+  -- the layer's filter judges as the book does
+  judge-is : judge t c m (a .ready) i is v small area ≡ keeps t c b i v
+  unfolding objectOf
+  judge-is = ap₂ (λ (old n : ℕ). passes (object t c i .filter) v old n) (first-agrees .old i low one) (first-agrees .count i low one)
+
+  count-own : row .occurrence ≡ counted i (b .counts) i
+  count-own =
+      filtered-count (judge t c m (a .ready) i is v small area) v (objectState first i)
+      ∙ ap (λ (n : ℕ). (n + 1) % 256) (first-agrees .count i low one)
+      ∙ sym (ap (λ (x : Bool). pick x ((b .counts i + 1) % 256) (b .counts i)) (eq-eqb i i refl))
+
+  count-other : (j : ℕ) → (j ≡ i → ⊥) → counted i (b .counts) j ≡ b .counts j
+  count-other j ne = rw (ne-eqb j i ne)
+
+  -- a request changes nothing that the book speaks of
+  request-agrees : (e : Book) (n : List ℕ) → Agrees t c e n → Agrees t c e (request t (object t c i) area n .memory)
+  unfolding request objectOf
+  request-agrees e n x =
+      ⊎-elim
+      (λ (w : wants t (object t c i) ≡ true).
+      let some = wants-some t (object t c i) w in
+      agrees-same t c e n (request t (object t c i) area n .memory) x (request-ready t c n (x .ready) i low area is)
+      (rw w
+      (same-ipdu t c n (x .ready) (objectRecord t (c .ipdus) i .ipdu) (usable t c (x .ready .right) i low .ipdu some .0)
+      (offered (ipdu t (objectRecord t (c .ipdus) i .ipdu)) (withWanted 1 (ipduState n (objectRecord t (c .ipdus) i .ipdu)))))))
+      (λ (w : wants t (object t c i) ≡ false). rw w x)
+      (true-or-false (wants t (object t c i)))
+
+  pub agrees-sent : Agrees t c (sent t c b i v) (sendIn t c i v area m .memory)
+  agrees-sent =
+      ⊎-elim
+      (λ (p : judge t c m (a .ready) i is v small area ≡ true).
+      rw (sent-as t c m (a .ready) i is v small area true p, sym judge-is ∙ p)
+      (request-agrees (record { entries = enter i v (b .entries); counts = counted i (b .counts); stopped = b .stopped })
+      (pack (object t c i) v (withObjectState first i row))
+      (agrees-entry t c b first first-agrees i low v row row-kept (counted i (b .counts))
+      (filtered-passed (judge t c m (a .ready) i is v small area) v (objectState first i) p) count-own count-other)))
+      (λ (p : judge t c m (a .ready) i is v small area ≡ false).
+      rw (sent-as t c m (a .ready) i is v small area false p, sym judge-is ∙ p)
+      (agrees-dropped t c b first first-agrees i low v row row-kept (counted i (b .counts))
+      (filtered-dropped (judge t c m (a .ready) i is v small area) v (objectState first i) p) count-own count-other))
+      (true-or-false (judge t c m (a .ready) i is v small area))
+
+pub agrees-send : (t : List ℕ) (c : Counts) (b : Book) (m : List ℕ) → Agrees t c b m → (i v : ℕ) → v < 2 ^ 32 → (area : List ℕ)
+    → Agrees t c (pick (sends t c i) (sent t c b i v) b) (sendIn t c i v area m .memory)
+agrees-send t c b m a i v small area =
+    ⊎-elim
+    (λ (is : isObject t c 1 i ≡ true). rw is (agrees-sent t c b m a i is v small area))
+    (λ (out : isObject t c 1 i ≡ false). refused out)
+    (true-or-false (isObject t c 1 i))
+  where
+    kept-memory : isObject t c 1 i ≡ false → sendIn t c i v area m .memory ≡ m
+    kept-memory out = unfold sendIn in rw out
+
+    refused : isObject t c 1 i ≡ false → Agrees t c (pick (sends t c i) (sent t c b i v) b) (sendIn t c i v area m .memory)
+    refused out = rw (kept-memory out, out) a
