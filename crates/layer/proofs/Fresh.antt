@@ -27,8 +27,10 @@ cleared n e = ap (λ (k : ℕ). replicate k 0) e
 module _ (o : Object) (i first : ℕ) (m : List ℕ) (placed : Placed o m) (room : objectRow i + 16 ≤ length m) where
   start-as-length : (d : Direction) → length (startAs d o i first m) ≡ length m
   start-as-length Send =
-      let same = pack-length o (o .initial) m placed in
-      object-length (pack o (o .initial) m) i (unused 0 (o .initial) first) (omega (arith, same, room)) ∙ same
+      let same = object-length m i (unused 0 (o .initial) first) room in
+      pack-length o (o .initial) (withObjectState m i (unused 0 (o .initial) first))
+      (record { long = omega (arith, same, placed .long); slot = placed .slot; ipdu = placed .ipdu })
+      ∙ same
   start-as-length Receive = object-length m i (unused (o .initial) (o .initial) first) room
 
 module _ (t : List ℕ) (c : Counts) (right : Right t c) where

@@ -61,7 +61,7 @@ unused value old queue =
 
 -- initial values packed, or stored in receive objects; old values initial
 abbrev pub startAs : Direction → Object → ℕ → ℕ → List ℕ → List ℕ
-startAs Send o i queue m = withObjectState (pack o (o .initial) m) i (unused 0 (o .initial) queue)
+startAs Send o i queue m = pack o (o .initial) (withObjectState m i (unused 0 (o .initial) queue))
 startAs Receive o i queue m = withObjectState m i (unused (o .initial) (o .initial) queue)
 
 abbrev pub startObject : List ℕ → Counts → ℕ → List ℕ → List ℕ

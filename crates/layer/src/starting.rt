@@ -101,8 +101,8 @@ fn start_object(m: &mut [u8], number: ObjectNumber, o: Object, first: u32)
     let direction = o.direction;
     match direction {
         Direction::Send => {
-            message::pack(m, o, o.initial);
             state::set_object_state(m, number, unused(0, o.initial, first));
+            message::pack(m, o, o.initial);
         }
         Direction::Receive => {
             state::set_object_state(m, number, unused(o.initial, o.initial, first));

@@ -132,7 +132,7 @@ unpack o m = unpacked (o .order) (startBit o) (o .size .0) (part (slotAt (o .ipd
 -- becomes the value and the occurrence stays.
 
 abbrev pub initialiseAs : Direction → Object → ℕ → ℕ → List ℕ → List ℕ
-initialiseAs Send o i v m = withObjectState (pack o v m) i (withOld v (objectState m i))
+initialiseAs Send o i v m = pack o v (withObjectState m i (withOld v (objectState m i)))
 initialiseAs Receive o i v m = withObjectState m i (withOld v (withValue v (withQueue 0 0 0 (objectState m i))))
 
 unfoldable pub initialise : Object → ℕ → ℕ → List ℕ → List ℕ

@@ -119,8 +119,8 @@ fn initialise_send(m: &mut [u8], number: ObjectNumber, o: Object, v: u32)
 {
     let mut s = state::object_state(m, number);
     s.old = v;
-    pack(m, o, v);
     state::set_object_state(m, number, s);
+    pack(m, o, v);
 }
 
 fn initialise_receive(m: &mut [u8], number: ObjectNumber, v: u32)

@@ -23,17 +23,17 @@ use Rattle.table.specs.declared.Object.{Object}
 use Rattle.table.specs.declared.ObjectRecord.{ObjectRecord}
 use Rattle.table.specs.Records.{none, ipduRecord, objectRecord}
 use Rattle.table.specs.Rules.{orderOf}
-use Rattle.table.specs.Decode.{objectOf}
+use Rattle.table.specs.Decode.{objectOf, Right}
 use Rattle.table.proofs.Accepted.{Usable, usable}
 use Rattle.table.proofs.Facts.{IpduFacts, ipdu-facts}
 use Rattle.state.specs.declared.IpduState.{IpduState}
 use Rattle.state.specs.declared.ObjectState.{ObjectState}
-use Rattle.state.specs.Layout.{stoppedAt, slotAt, ipduRow, withIpduState, objectRow, objectState, withObjectState}
+use Rattle.state.specs.Layout.{memorySize, stoppedAt, slotAt, ipduRow, withIpduState, objectRow, objectState, withObjectState}
 use Rattle.state.specs.Ranges.{Ready}
 use Rattle.state.proofs.Laws.{ipdu-part, ipdu-keeps-objects, object-part, object-stored, object-other, object-read}
 use Rattle.state.proofs.Ready.{ObjectKept, kept-fits, object-row, ipdu-row}
 use Rattle.message.specs.Objects.{object, Placed, startBit, pack}
-use Rattle.message.proofs.Kept.{ready-placed, pack-room, packed-slot-length}
+use Rattle.message.proofs.Kept.{right-placed, pack-room, packed-slot-length}
 use Rattle.trace.specs.Book.{Entry, Book, enter, lastOf, ownsBit, messageBit, bookBit}
 use Rattle.trace.proofs.Rows.{pack-row, pack-holds}
 use Rattle.trace.proofs.Frames.{start-bit, room-there, size-some, low-ipdu}
@@ -108,15 +108,15 @@ module _ (t : List ℕ) (c : Counts) where
       record {
         stopped = ap value (object-part m j s room 0 1 (inl (omega arith)));
         old = λ i b k.
-          ⊎-elim
-          (λ (e : i ≡ j). rw (e, stored) (old (rw e at k)))
-          (λ (ne : i ≡ j → ⊥). ap (λ (x : ObjectState). x .old) (object-other m j s room i ne))
-          (eq-or-ne i j);
+            ⊎-elim
+            (λ (e : i ≡ j). rw (e, stored) (old (rw e at k)))
+            (λ (ne : i ≡ j → ⊥). ap (λ (x : ObjectState). x .old) (object-other m j s room i ne))
+            (eq-or-ne i j);
         count = λ i b k.
-          ⊎-elim
-          (λ (e : i ≡ j). rw (e, stored) (count (rw e at k)))
-          (λ (ne : i ≡ j → ⊥). ap (λ (x : ObjectState). x .occurrence) (object-other m j s room i ne))
-          (eq-or-ne i j);
+            ⊎-elim
+            (λ (e : i ≡ j). rw (e, stored) (count (rw e at k)))
+            (λ (ne : i ≡ j → ⊥). ap (λ (x : ObjectState). x .occurrence) (object-other m j s room i ne))
+            (eq-or-ne i j);
         slot = λ k b d. object-part m j s room (slotAt k) 8 (inl (omega (arith, b, ready .right .shape .ipdus)));
       }
     where
@@ -167,12 +167,12 @@ module _ (t : List ℕ) (c : Counts) where
         old = λ i b k. ap (λ (x : ObjectState). x .old) (row i);
         count = λ i b k. ap (λ (x : ObjectState). x .occurrence) (row i);
         slot = λ k b d.
-          ⊎-elim
-          (λ (e : k ≡ j). absurd (received (rw e at d)))
-          (λ (ne : k ≡ j → ⊥).
-          part-apart (slotAt j) f m (slotAt k) 8 room
-          (⊎-elim (λ (l : k < j). inl (omega (arith, l))) (λ (g : j ≤ k). inr (omega (arith, g, ne, few))) (lt-or-le k j)))
-          (eq-or-ne k j);
+            ⊎-elim
+            (λ (e : k ≡ j). absurd (received (rw e at d)))
+            (λ (ne : k ≡ j → ⊥).
+            part-apart (slotAt j) f m (slotAt k) 8 room
+            (⊎-elim (λ (l : k < j). inl (omega (arith, l))) (λ (g : j ≤ k). inr (omega (arith, g, ne, few))) (lt-or-le k j)))
+            (eq-or-ne k j);
       }
     where
       room : slotAt j + length f ≤ length m
@@ -191,7 +191,7 @@ module _ (t : List ℕ) (c : Counts) where
     pub old : (i : ℕ) → i < c .objects → objectRecord t (c .ipdus) i .kind ≡ 1 → objectState m i .old ≡ lastOf i (b .entries)
     pub count : (i : ℕ) → i < c .objects → objectRecord t (c .ipdus) i .kind ≡ 1 → objectState m i .occurrence ≡ b .counts i
     pub bits : (k : ℕ) → k < c .ipdus → ipduRecord t k .direction ≡ 1 → (p : ℕ) → p < 64
-      → frameBit (part (slotAt k) 8 m) p ≡ bookBit t c (b .entries) k p
+        → frameBit (part (slotAt k) 8 m) p ≡ bookBit t c (b .entries) k p
 
   pub agrees-same : (b : Book) (m n : List ℕ) → Agrees b m → Ready t c n → Same m n → Agrees b n
   agrees-same b m n a ready s =
@@ -206,19 +206,19 @@ module _ (t : List ℕ) (c : Counts) where
   -- ---- packing is an entry
 
   -- bits of each send I-PDU after packing
-  pub pack-bits : (b : List Entry) (m : List ℕ) → Ready t c m → (i v : ℕ) → (h : i < c .objects)
+  pub pack-bits : (b : List Entry) (m : List ℕ) → Right t c → length m ≡ memorySize → (i v : ℕ) → (h : i < c .objects)
       → ((k : ℕ) → k < c .ipdus → ipduRecord t k .direction ≡ 1 → (p : ℕ) → p < 64 → frameBit (part (slotAt k) 8 m) p ≡ bookBit t c b k p)
       → (k : ℕ) → k < c .ipdus → ipduRecord t k .direction ≡ 1 → (p : ℕ) → p < 64
       → frameBit (part (slotAt k) 8 (pack (object t c i) v m)) p ≡ bookBit t c (enter i v b) k p
   unfolding objectOf
-  pack-bits b m ready i v h before k low d p few =
+  pack-bits b m right long i v h before k low d p few =
       ⊎-elim mine others (true-or-false (eqb (objectRecord t (c .ipdus) i .ipdu) k))
     where
       r : ObjectRecord
       r = objectRecord t (c .ipdus) i
 
       placed : Placed (object t c i) m
-      placed = ready-placed t c m ready i h
+      placed = right-placed t c m right (omega (arith, long)) i h
 
       -- its own I-PDU
       mine : eqb (objectRecord t (c .ipdus) i .ipdu) k ≡ true
@@ -226,19 +226,19 @@ module _ (t : List ℕ) (c : Counts) where
       mine e =
           let same : objectRecord t (c .ipdus) i .ipdu ≡ k = eqb-true (objectRecord t (c .ipdus) i .ipdu) k e in
           let some : eqb (objectRecord t (c .ipdus) i .ipdu) none ≡ false =
-          ne-eqb (objectRecord t (c .ipdus) i .ipdu) none (λ z. absurd (omega (arith, z, same, low, ready .right .shape .ipdus))) in
-          let eight : length (part (slotAt k) 8 m) ≡ 8 = part-length (slotAt k) 8 m (omega (arith, low, ready .long, ready .right .shape .ipdus)) in
+          ne-eqb (objectRecord t (c .ipdus) i .ipdu) none (λ z. absurd (omega (arith, z, same, low, right .shape .ipdus))) in
+          let eight : length (part (slotAt k) 8 m) ≡ 8 = part-length (slotAt k) 8 m (omega (arith, low, long, right .shape .ipdus)) in
           let held : part (slotAt k) 8 (pack (object t c i) v m) ≡ packed (orderOf (r .order)) (r .start) (r .size) v (part (slotAt k) 8 m) =
           ap (λ (n : ℕ). part (slotAt n) 8 (pack (object t c i) v m)) (sym same) ∙ pack-holds (object t c i) v m placed some
-          ∙ ap₂ (λ (s : ℕ) (n : ℕ). packed (orderOf (r .order)) s (r .size) v (part (slotAt n) 8 m)) (start-bit t c m ready i h) same in
+          ∙ ap₂ (λ (s : ℕ) (n : ℕ). packed (orderOf (r .order)) s (r .size) v (part (slotAt n) 8 m)) (start-bit t c right i h) same in
           let fits : Fits (orderOf (r .order)) (r .start) (r .size) (length (part (slotAt k) 8 m)) =
           rw eight
           (record {
-            some = size-some t c m ready i h;
+            some = size-some t c right i h;
             short = omega arith;
             inside =
-              room-slot (orderOf (r .order)) (r .start) (r .size) (ipduRecord t (r .ipdu) .length)
-              (ipdu-facts (ipduRecord t (r .ipdu)) (ready .right .ipdus (r .ipdu) (low-ipdu t c m ready i h some)) .most) (usable t c (ready .right) i h .room some);
+                room-slot (orderOf (r .order)) (r .start) (r .size) (ipduRecord t (r .ipdu) .length)
+                (ipdu-facts (ipduRecord t (r .ipdu)) (right .ipdus (r .ipdu) (low-ipdu t c right i h some)) .most) (usable t c right i h .room some);
           }) in
           rw (held, e)
           (packed-bit r v (part (slotAt k) 8 m) fits p (omega (arith, eight, few))

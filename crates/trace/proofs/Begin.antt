@@ -229,11 +229,26 @@ module _ (t : List ℕ) (c : Counts) (right : Right t c) (bt : Bytes t) where
               (unused-range (objectRecord t (c .ipdus) n .depth) v (object t c n .initial) (depths t c n) small initial-fits));
         }
 
+    -- packing leaves all rows
+    set-packed : (l : List ℕ) → Set (suc n) l → Set (suc n) (pack (object t c n) (object t c n .initial) l)
+    unfolding stoppedAt get
+    set-packed l x =
+        let there : Placed (object t c n) l = right-placed t c l right (omega (arith, x .long)) n h in
+        let v : ℕ = object t c n .initial in
+        record {
+          long = pack-length (object t c n) v l there ∙ x .long;
+          bytes = pack-bytes (object t c n) v l (x .bytes);
+          stopped = ap value (pack-part (object t c n) v l there 0 1 (omega arith)) ∙ x .stopped;
+          ipdus = λ k few.
+              rw (ipdu-read (pack (object t c n) v l) l k (λ o w e. pack-part (object t c n) v l there (ipduRow k + o) w (omega (arith, e, few, right .shape .ipdus))))
+              (x .ipdus k few);
+          objects = λ i few. rw (pack-row (object t c n) v l there i) (x .objects i few);
+        }
+
     set-more : (d : Direction) → Set (suc n) (startAs d (object t c n) n (depths t c n) m)
     set-more Send =
-        set-row (pack (object t c n) (object t c n .initial) m) 0 (omega arith) (pack-length (object t c n) (object t c n .initial) m placed)
-        (pack-bytes (object t c n) (object t c n .initial) m (b .bytes)) (pack-part (object t c n) (object t c n .initial) m placed)
-        (pack-row (object t c n) (object t c n .initial) m placed)
+        set-packed (withObjectState m n (unused 0 (object t c n .initial) (depths t c n)))
+        (set-row m 0 (omega arith) refl (b .bytes) (λ j w e. refl) (λ i. refl))
     set-more Receive = set-row m (object t c n .initial) initial-fits refl (b .bytes) (λ j w e. refl) (λ i. refl)
 
   all-set : (n : ℕ) → n ≤ c .objects → Set n (fold n (startObject t c) (fold (c .ipdus) (startIpdu t) blank))

@@ -25,7 +25,7 @@ use Rattle.table.specs.declared.Object.{Object}
 use Rattle.table.specs.declared.ObjectRecord.{ObjectRecord}
 use Rattle.table.specs.Records.{none, ipduRecord, objectRecord}
 use Rattle.table.specs.Rules.{orderOf}
-use Rattle.table.specs.Decode.{ipduOf, objectOf}
+use Rattle.table.specs.Decode.{ipduOf, objectOf, Right}
 use Rattle.table.proofs.Accepted.{Usable, usable}
 use Rattle.table.proofs.Facts.{ipdu-facts}
 use Rattle.state.specs.declared.ObjectState.{ObjectState}
@@ -72,17 +72,17 @@ copied-trip o start size f m at some few fits there =
 
 -- ---- an object of a right table
 
-module _ (t : List ℕ) (c : Counts) (m : List ℕ) (ready : Ready t c m) (i : ℕ) (h : i < c .objects) where
+module _ (t : List ℕ) (c : Counts) (right : Right t c) (i : ℕ) (h : i < c .objects) where
   pub start-bit : startBit (object t c i) ≡ objectRecord t (c .ipdus) i .start
   unfolding objectOf
   start-bit =
-      position-twice (orderOf (objectRecord t (c .ipdus) i .order)) (objectRecord t (c .ipdus) i .start) (usable t c (ready .right) i h .start)
+      position-twice (orderOf (objectRecord t (c .ipdus) i .order)) (objectRecord t (c .ipdus) i .start) (usable t c right i h .start)
 
   pub room-there : eqb (objectRecord t (c .ipdus) i .ipdu) none ≡ false
       → room (object t c i .order) (startBit (object t c i)) (object t c i .size .0) (ipduRecord t (objectRecord t (c .ipdus) i .ipdu) .length) ≡ true
   unfolding objectOf
   room-there some =
-      rw start-bit (usable t c (ready .right) i h .room some)
+      rw start-bit (usable t c right i h .room some)
 
   room-placed : eqb (objectRecord t (c .ipdus) i .ipdu) none ≡ false
       → room (object t c i .order) (startBit (object t c i)) (object t c i .size .0) (ipdu t (objectRecord t (c .ipdus) i .ipdu) .length .0) ≡ true
@@ -91,10 +91,10 @@ module _ (t : List ℕ) (c : Counts) (m : List ℕ) (ready : Ready t c m) (i : �
 
   pub size-some : 0 < object t c i .size .0
   unfolding objectOf
-  size-some = usable t c (ready .right) i h .slot .some
+  size-some = usable t c right i h .slot .some
 
   pub low-ipdu : eqb (objectRecord t (c .ipdus) i .ipdu) none ≡ false → objectRecord t (c .ipdus) i .ipdu < c .ipdus
-  low-ipdu some = usable t c (ready .right) i h .ipdu some .0
+  low-ipdu some = usable t c right i h .ipdu some .0
 
 -- ---- send
 
@@ -178,7 +178,7 @@ module _ (t : List ℕ) (c : Counts) (m : List ℕ) (ready : Ready t c m) (i : �
         ap (unpacked (object t c i .order) (startBit (object t c i)) (object t c i .size .0)) (s .frame)
         ∙ frame-trip (object t c i .order) (startBit (object t c i)) (object t c i .size .0) v (ipdu t (object t c i .ipdu .0) .length .0)
         (part (slotAt (object t c i .ipdu .0)) 8 after)
-        (size-some t c m ready i here) (has-ipdu t c m ready i here .few (s .some)) (room-placed t c m ready i here (s .some)) eight
+        (size-some t c (ready .right) i here) (has-ipdu t c m ready i here .few (s .some)) (room-placed t c (ready .right) i here (s .some)) eight
 
     pub frame-bytes : Bytes (part (8 * (object t c i .ipdu .0)) (ipdu t (object t c i .ipdu .0) .length .0) (sendIn t c i v area m .area))
     unfolding part
@@ -257,7 +257,7 @@ module _ (t : List ℕ) (c : Counts) (m : List ℕ) (ready : Ready t c m) (j : �
   below = object-there t c 2 j gets
 
   in-table : objectRecord t (c .ipdus) j .ipdu < c .ipdus
-  in-table = low-ipdu t c m ready j below some
+  in-table = low-ipdu t c (ready .right) j below some
 
   few : ipduRecord t (objectRecord t (c .ipdus) j .ipdu) .length ≤ 8
   few = ipdu-short t c m ready (objectRecord t (c .ipdus) j .ipdu) in-table
@@ -285,7 +285,7 @@ module _ (t : List ℕ) (c : Counts) (m : List ℕ) (ready : Ready t c m) (j : �
   unfolding unpack objectOf
   copied-value =
       copied-trip (object t c j .order) (startBit (object t c j)) (object t c j .size .0) f m (slotAt (objectRecord t (c .ipdus) j .ipdu))
-      (size-some t c m ready j below) (omega (arith, long, few)) (rw long (room-there t c m ready j below some))
+      (size-some t c (ready .right) j below) (omega (arith, long, few)) (rw long (room-there t c (ready .right) j below some))
       (omega (arith, in-table, ready .long, ready .right .shape .ipdus))
 
   frame-ready : Ready t c (deliverFrame t c (objectRecord t (c .ipdus) j .ipdu) copied)

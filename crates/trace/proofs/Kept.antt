@@ -81,21 +81,21 @@ module _ (t : List ℕ) (c : Counts) (b : Book) (m : List ℕ) (a : Agrees t c b
         ready = ready-pack t c next next-ready i h v;
         stopped = pack-stopped ∙ row-stopped t c m (a .ready) i h s kept ∙ a .stopped;
         old = λ j low one.
-          ap (λ (x : ObjectState). x .old) (pack-row (object t c i) v next (ready-placed t c next next-ready i h) j)
-          ∙ ⊎-elim
-          (λ (e : j ≡ i). rw e (ap (λ (x : ObjectState). x .old) (row-own t c m (a .ready) i h s kept) ∙ old ∙ sym (last-own i v (b .entries))))
-          (λ (ne : j ≡ i → ⊥).
-          ap (λ (x : ObjectState). x .old) (row-other t c m (a .ready) i h s kept j ne) ∙ a .old j low one ∙ sym (last-other i j v (b .entries) ne))
-          (eq-or-ne j i);
+            ap (λ (x : ObjectState). x .old) (pack-row (object t c i) v next (ready-placed t c next next-ready i h) j)
+            ∙ ⊎-elim
+            (λ (e : j ≡ i). rw e (ap (λ (x : ObjectState). x .old) (row-own t c m (a .ready) i h s kept) ∙ old ∙ sym (last-own i v (b .entries))))
+            (λ (ne : j ≡ i → ⊥).
+            ap (λ (x : ObjectState). x .old) (row-other t c m (a .ready) i h s kept j ne) ∙ a .old j low one ∙ sym (last-other i j v (b .entries) ne))
+            (eq-or-ne j i);
         count = λ j low one.
-          ap (λ (x : ObjectState). x .occurrence) (pack-row (object t c i) v next (ready-placed t c next next-ready i h) j)
-          ∙ ⊎-elim
-          (λ (e : j ≡ i). rw e (ap (λ (x : ObjectState). x .occurrence) (row-own t c m (a .ready) i h s kept) ∙ count))
-          (λ (ne : j ≡ i → ⊥).
-          ap (λ (x : ObjectState). x .occurrence) (row-other t c m (a .ready) i h s kept j ne) ∙ a .count j low one ∙ sym (others j ne))
-          (eq-or-ne j i);
-        bits = pack-bits t c (b .entries) next next-ready i v h
-          (λ k low d p few. rw (row-slot t c m (a .ready) i h s kept k low) (a .bits k low d p few));
+            ap (λ (x : ObjectState). x .occurrence) (pack-row (object t c i) v next (ready-placed t c next next-ready i h) j)
+            ∙ ⊎-elim
+            (λ (e : j ≡ i). rw e (ap (λ (x : ObjectState). x .occurrence) (row-own t c m (a .ready) i h s kept) ∙ count))
+            (λ (ne : j ≡ i → ⊥).
+            ap (λ (x : ObjectState). x .occurrence) (row-other t c m (a .ready) i h s kept j ne) ∙ a .count j low one ∙ sym (others j ne))
+            (eq-or-ne j i);
+        bits = pack-bits t c (b .entries) next (next-ready .right) (next-ready .long) i v h
+            (λ k low d p few. rw (row-slot t c m (a .ready) i h s kept k low) (a .bits k low d p few));
       }
     where
       next : List ℕ
@@ -115,16 +115,16 @@ module _ (t : List ℕ) (c : Counts) (b : Book) (m : List ℕ) (a : Agrees t c b
         ready = ready-object t c m (a .ready) i h s kept;
         stopped = row-stopped t c m (a .ready) i h s kept ∙ a .stopped;
         old = λ j low one.
-          ⊎-elim
-          (λ (e : j ≡ i). rw e (ap (λ (x : ObjectState). x .old) (row-own t c m (a .ready) i h s kept) ∙ old ∙ a .old i h (rw e at one)))
-          (λ (ne : j ≡ i → ⊥). ap (λ (x : ObjectState). x .old) (row-other t c m (a .ready) i h s kept j ne) ∙ a .old j low one)
-          (eq-or-ne j i);
+            ⊎-elim
+            (λ (e : j ≡ i). rw e (ap (λ (x : ObjectState). x .old) (row-own t c m (a .ready) i h s kept) ∙ old ∙ a .old i h (rw e at one)))
+            (λ (ne : j ≡ i → ⊥). ap (λ (x : ObjectState). x .old) (row-other t c m (a .ready) i h s kept j ne) ∙ a .old j low one)
+            (eq-or-ne j i);
         count = λ j low one.
-          ⊎-elim
-          (λ (e : j ≡ i). rw e (ap (λ (x : ObjectState). x .occurrence) (row-own t c m (a .ready) i h s kept) ∙ count))
-          (λ (ne : j ≡ i → ⊥).
-          ap (λ (x : ObjectState). x .occurrence) (row-other t c m (a .ready) i h s kept j ne) ∙ a .count j low one ∙ sym (others j ne))
-          (eq-or-ne j i);
+            ⊎-elim
+            (λ (e : j ≡ i). rw e (ap (λ (x : ObjectState). x .occurrence) (row-own t c m (a .ready) i h s kept) ∙ count))
+            (λ (ne : j ≡ i → ⊥).
+            ap (λ (x : ObjectState). x .occurrence) (row-other t c m (a .ready) i h s kept j ne) ∙ a .count j low one ∙ sym (others j ne))
+            (eq-or-ne j i);
         bits = λ k low d p few. rw (row-slot t c m (a .ready) i h s kept k low) (a .bits k low d p few);
       }
 

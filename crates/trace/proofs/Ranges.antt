@@ -55,7 +55,7 @@ module _ (t : List ℕ) (c : Counts) where
     kept = ready-kept t c m ready i h
 
     -- old and value set
-    kept-old : (v : ℕ) (s : ObjectState) → v < 2 ^ 32 → ObjectKept (objectRecord t (c .ipdus) i .depth) (depths t c i) s
+    pub kept-old : (v : ℕ) (s : ObjectState) → v < 2 ^ 32 → ObjectKept (objectRecord t (c .ipdus) i .depth) (depths t c i) s
         → ObjectKept (objectRecord t (c .ipdus) i .depth) (depths t c i) (withOld v s)
     kept-old v s small k =
         record {
@@ -83,9 +83,10 @@ module _ (t : List ℕ) (c : Counts) where
           queue = k .queue;
         }
 
-    initialise-ready : (v : ℕ) → v < 2 ^ 32 → (d : Direction) → Ready t c (initialiseAs d (object t c i) i v m)
+    pub initialise-ready : (v : ℕ) → v < 2 ^ 32 → (d : Direction) → Ready t c (initialiseAs d (object t c i) i v m)
     initialise-ready v small Send =
-        ready-object t c (pack (object t c i) v m) (ready-pack t c m ready i h v) i h (withOld v (objectState m i)) (kept-old v (objectState m i) small kept)
+        ready-pack t c (withObjectState m i (withOld v (objectState m i)))
+        (ready-object t c m ready i h (withOld v (objectState m i)) (kept-old v (objectState m i) small kept)) i h v
     initialise-ready v small Receive =
         ready-object t c m ready i h (withOld v (withValue v (withQueue 0 0 0 (objectState m i))))
         (kept-old v (withValue v (withQueue 0 0 0 (objectState m i))) small

@@ -11,6 +11,7 @@ use Rattle.table.specs.declared.Direction.{Direction}
 use Rattle.state.specs.declared.ObjectState.{ObjectState}
 use Rattle.state.specs.Layout.{withObjectState}
 use Rattle.layer.specs.Start.{startAs}
+use Rattle.message.specs.Objects.{pack}
 use Rattle.layer.proofs.starting.unused.Reads as unused-reads
 use Rattle.message.proofs.pack.Reads as pack-reads
 use Rattle.state.proofs.set_object_state.Reads as set-object-state-reads
@@ -18,14 +19,14 @@ use Rattle.state.proofs.set_object_state.Reads as set-object-state-reads
 enum-told : tie.Need-enum-told
 enum-told c = search needs
 
-pack-requires : tie.Need-pack-requires
-pack-requires c κs = search needs
-
 unused-requires : tie.Need-unused-requires
 unused-requires c κs = search needs
 
 set-object-state-requires : tie.Need-set-object-state-requires
 set-object-state-requires c κs = search needs
+
+pack-requires : tie.Need-pack-requires
+pack-requires c κs = record { long = search (needs, c .before .before .before .before .before .before .before .before .before .pre .0); slot = c .before .before .before .before .before .before .before .before .before .pre .0 .slot; ipdu = c .before .before .before .before .before .before .before .before .before .pre .0 .ipdu }
 
 enum-told-2 : tie.Need-enum-told-2
 enum-told-2 c = search needs
@@ -41,7 +42,7 @@ same-length c = search needs
 
 returns : tie.Need-returns
 returns c =
-    c .before .before .set-object-state .ensures ∙ ap₂ (λ (n : List ℕ) (s : ObjectState). withObjectState n (c .before .before .before .before .before .before .before .before .before .before .before .before .args .number .0) s) (c .before .before .before .before .before .before .before .pack .ensures) (c .before .before .before .unused .ensures)
+    c .before .before .pack .ensures ∙ ap (pack (c .before .before .before .before .before .before .before .before .before .before .before .before .args .o) (c .before .before .before .before .before .before .before .before .before .before .before .before .args .o .initial)) (c .before .before .before .before .before .before .set-object-state .ensures ∙ ap (λ (s : ObjectState). withObjectState (c .before .before .before .before .before .before .before .before .before .before .before .before .args .m .now) (c .before .before .before .before .before .before .before .before .before .before .before .before .args .number .0) s) (c .before .before .before .before .before .before .before .unused .ensures))
     ∙ sym (ap (λ (d : Direction). startAs d (c .before .before .before .before .before .before .before .before .before .before .before .before .args .o) (c .before .before .before .before .before .before .before .before .before .before .before .before .args .number .0) (c .before .before .before .before .before .before .before .before .before .before .before .before .args .first) (c .before .before .before .before .before .before .before .before .before .before .before .before .args .m .now)) (c .before .before .before .before .before .before .before .before .before .enum-told .given .1))
 
 same-length-2 : tie.Need-same-length-2
@@ -57,9 +58,9 @@ start-object-spec =
     tie.close
     (tie.spec
     enum-told
-    pack-requires
     unused-requires
     set-object-state-requires
+    pack-requires
     enum-told-2
     unused-requires-2
     set-object-state-requires-2
