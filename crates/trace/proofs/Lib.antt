@@ -8,3 +8,4 @@ pub mod Never
 pub mod Agree
 pub mod Unseen
 pub mod Kept
+pub mod Others

@@ -69,7 +69,7 @@ module _ (t : List ℕ) (c : Counts) where
           queue = k .queue;
         }
 
-    kept-set : (v : ℕ) (s : ObjectState) → v < 2 ^ 32 → ObjectKept (objectRecord t (c .ipdus) i .depth) (depths t c i) s
+    pub kept-set : (v : ℕ) (s : ObjectState) → v < 2 ^ 32 → ObjectKept (objectRecord t (c .ipdus) i .depth) (depths t c i) s
         → ObjectKept (objectRecord t (c .ipdus) i .depth) (depths t c i) (withValue v s)
     kept-set v s small k =
         record {
@@ -93,7 +93,7 @@ module _ (t : List ℕ) (c : Counts) where
         (kept-set v (withQueue 0 0 0 (objectState m i)) small
         (kept-queue (objectRecord t (c .ipdus) i .depth) (depths t c i) 0 0 0 (objectState m i) (omega arith) (omega arith) (omega arith) kept)))
 
-    take-ready : eqb (objectRecord t (c .ipdus) i .depth) 0 ≡ false → Ready t c (take (objectRecord t (c .ipdus) i .depth) i m)
+    pub take-ready : eqb (objectRecord t (c .ipdus) i .depth) 0 ≡ false → Ready t c (take (objectRecord t (c .ipdus) i .depth) i m)
     unfolding take
     take-ready some =
         let deep : objectRecord t (c .ipdus) i .depth ≡ 0 → ⊥ = eqb-false (objectRecord t (c .ipdus) i .depth) 0 some in
@@ -102,7 +102,7 @@ module _ (t : List ℕ) (c : Counts) where
         (kept-queue (objectRecord t (c .ipdus) i .depth) (depths t c i) 0 (around (objectRecord t (c .ipdus) i .depth) (objectState m i .head + 1)) (objectState m i .count - 1)
         (objectState m i) (omega arith) (omega (arith, kept .count)) (omega (arith, low)) kept)
 
-    unmarked-ready : Ready t c (withObjectState m i (withMarks 0 (objectState m i)))
+    pub unmarked-ready : Ready t c (withObjectState m i (withMarks 0 (objectState m i)))
     unmarked-ready =
         ready-object t c m ready i h (withMarks 0 (objectState m i))
         (record {
