@@ -88,7 +88,7 @@ idle-fits n h =
       timer = h;
     }
 
-unused-fits : (value old queue : ℕ) → value < 2 ^ 32 → old < 2 ^ 32 → queue ≤ 512 → ObjectFits (unused value old queue)
+pub unused-fits : (value old queue : ℕ) → value < 2 ^ 32 → old < 2 ^ 32 → queue ≤ 512 → ObjectFits (unused value old queue)
 unused-fits value old queue a b d =
     record {
       value = a;
@@ -129,13 +129,13 @@ zero-bytes i =
 
 module _ (t : List ℕ) (c : Counts) (right : Right t c) (bt : Bytes t) where
   -- the I-PDUs below n are as a start leaves them
-  record Begun (n : ℕ) (m : List ℕ) : Type 0 where
-    long : length m ≡ memorySize
-    bytes : Bytes m
-    stopped : stoppedAt m ≡ 0
-    ipdus : (k : ℕ) → k < n → ipduInRange (ipdu t k) (ipduState m k) ≡ true
+  pub record Begun (n : ℕ) (m : List ℕ) : Type 0 where
+    pub long : length m ≡ memorySize
+    pub bytes : Bytes m
+    pub stopped : stoppedAt m ≡ 0
+    pub ipdus : (k : ℕ) → k < n → ipduInRange (ipdu t k) (ipduState m k) ≡ true
 
-  begun : (n : ℕ) → n ≤ c .ipdus → Begun n (fold n (startIpdu t) blank)
+  pub begun : (n : ℕ) → n ≤ c .ipdus → Begun n (fold n (startIpdu t) blank)
   unfolding blank stoppedAt get
   begun zero h =
       record {
@@ -188,12 +188,12 @@ module _ (t : List ℕ) (c : Counts) (right : Right t c) (bt : Bytes t) where
       (true-or-false (eqb (o .ipdu .0) none))
 
   -- all I-PDUs and the objects below n are as a start leaves them
-  record Set (n : ℕ) (m : List ℕ) : Type 0 where
-    long : length m ≡ memorySize
-    bytes : Bytes m
-    stopped : stoppedAt m ≡ 0
-    ipdus : (k : ℕ) → k < c .ipdus → ipduInRange (ipdu t k) (ipduState m k) ≡ true
-    objects : (i : ℕ) → i < n → objectInRange (objectRecord t (c .ipdus) i .depth) (depths t c i) (objectState m i) ≡ true
+  pub record Set (n : ℕ) (m : List ℕ) : Type 0 where
+    pub long : length m ≡ memorySize
+    pub bytes : Bytes m
+    pub stopped : stoppedAt m ≡ 0
+    pub ipdus : (k : ℕ) → k < c .ipdus → ipduInRange (ipdu t k) (ipduState m k) ≡ true
+    pub objects : (i : ℕ) → i < n → objectInRange (objectRecord t (c .ipdus) i .depth) (depths t c i) (objectState m i) ≡ true
 
   module _ (n : ℕ) (h : n < c .objects) (m : List ℕ) (b : Set n m) where
     room : objectRow n + 16 ≤ length m
@@ -202,11 +202,11 @@ module _ (t : List ℕ) (c : Counts) (right : Right t c) (bt : Bytes t) where
     placed : Placed (object t c n) m
     placed = right-placed t c m right (omega (arith, b .long)) n h
 
-    initial-fits : object t c n .initial < 2 ^ 32
+    pub initial-fits : object t c n .initial < 2 ^ 32
     unfolding objectOf Rattle.table.specs.Records.objectRecord
     initial-fits = get-lt 4 _ t bt
 
-    queue-low : depths t c n ≤ 512
+    pub queue-low : depths t c n ≤ 512
     queue-low = omega (arith, depth-sum t c right n h)
 
     -- a row set over a memory that agrees with this one on all rows
@@ -245,13 +245,13 @@ module _ (t : List ℕ) (c : Counts) (right : Right t c) (bt : Bytes t) where
           objects = λ i few. rw (pack-row (object t c n) v l there i) (x .objects i few);
         }
 
-    set-more : (d : Direction) → Set (suc n) (startAs d (object t c n) n (depths t c n) m)
+    pub set-more : (d : Direction) → Set (suc n) (startAs d (object t c n) n (depths t c n) m)
     set-more Send =
         set-packed (withObjectState m n (unused 0 (object t c n .initial) (depths t c n)))
         (set-row m 0 (omega arith) refl (b .bytes) (λ j w e. refl) (λ i. refl))
     set-more Receive = set-row m (object t c n .initial) initial-fits refl (b .bytes) (λ j w e. refl) (λ i. refl)
 
-  all-set : (n : ℕ) → n ≤ c .objects → Set n (fold n (startObject t c) (fold (c .ipdus) (startIpdu t) blank))
+  pub all-set : (n : ℕ) → n ≤ c .objects → Set n (fold n (startObject t c) (fold (c .ipdus) (startIpdu t) blank))
   all-set zero h =
       let b = begun (c .ipdus) (omega arith) in
       record { long = b .long; bytes = b .bytes; stopped = b .stopped; ipdus = b .ipdus; objects = λ i e. absurd (not-suc-le-zero e) }

@@ -9,3 +9,4 @@ pub mod Agree
 pub mod Unseen
 pub mod Kept
 pub mod Others
+pub mod Opening
