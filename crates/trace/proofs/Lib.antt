@@ -10,3 +10,4 @@ pub mod Unseen
 pub mod Kept
 pub mod Others
 pub mod Opening
+pub mod Lists

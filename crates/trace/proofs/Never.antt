@@ -57,7 +57,7 @@ pub record Running (t : List ℕ) (c : Counts) (m : List ℕ) : Type 0 where
 
 -- ---- the first 8,192 bytes and the rest
 
-front-of : (x m : List ℕ) → length x ≡ memorySize → front (x ++ drop memorySize m) ≡ x
+pub front-of : (x m : List ℕ) → length x ≡ memorySize → front (x ++ drop memorySize m) ≡ x
 front-of x m e = rw e at (take-append-seam x (drop memorySize m))
 
 running : (t : List ℕ) (c : Counts) (x m : List ℕ) → Ready t c x → Running t c (x ++ drop memorySize m)
@@ -71,7 +71,7 @@ running t c x m ready =
 
 module _ (t : List ℕ) (c : Counts) (accepted : check t ≡ Accepted c) (m : List ℕ) (run : Running t c m) where
   -- stopped or admitted, where the area is long enough
-  admission-running : (fits : Bool) → admission t m fits ≡ pick fits (pick (eqb (stoppedAt (front m)) 1) (Refused Stopped) (Admitted c)) (Refused WrongMemory)
+  pub admission-running : (fits : Bool) → admission t m fits ≡ pick fits (pick (eqb (stoppedAt (front m)) 1) (Refused Stopped) (Admitted c)) (Refused WrongMemory)
   unfolding admission
   admission-running fits =
       rw (accepted, le-leb memorySize (length m) (run .long), ready-in-range t c (front m) (run .ready)) (both fits)
