@@ -100,7 +100,7 @@ pub fn start_periodic(t: &[u8], m: &mut [u8]) -> Answer
 {
     let admission = super::admit(t, m, true);
     match admission {
-        Admission::Admitted(c) => set_periods(t, c, &mut m[..MEMORY_SIZE], true),
+        Admission::Admitted(c) => periodic_checked(t, c, &mut m[..MEMORY_SIZE], true),
         Admission::Refused(answer) => answer,
     }
 }
@@ -111,7 +111,7 @@ pub fn stop_periodic(t: &[u8], m: &mut [u8]) -> Answer
 {
     let admission = super::admit(t, m, true);
     match admission {
-        Admission::Admitted(c) => set_periods(t, c, &mut m[..MEMORY_SIZE], false),
+        Admission::Admitted(c) => periodic_checked(t, c, &mut m[..MEMORY_SIZE], false),
         Admission::Refused(answer) => answer,
     }
 }
@@ -145,7 +145,8 @@ pub fn confirm(t: &[u8], m: &mut [u8], number: IpduNumber, good: bool) -> Answer
     }
 }
 
-fn stop_checked(m: &mut [u8]) -> Answer
+// Notes that the layer is stopped.
+pub fn stop_checked(m: &mut [u8]) -> Answer
     requires { ⌜ 1 ≤ length (now m) ⌝ }
     ensures { λ r. ⌜ outcome r (now (m .exit)) [] ≡ stopIn (now (m .entry)) ⌝ }
 {
@@ -153,7 +154,8 @@ fn stop_checked(m: &mut [u8]) -> Answer
     Answer::Done(0)
 }
 
-fn set_periods(t: &[u8], c: Counts, m: &mut [u8], on: bool) -> Answer
+// Starts the period of each I-PDU that has one, or halts it.
+pub fn periodic_checked(t: &[u8], c: Counts, m: &mut [u8], on: bool) -> Answer
     requires { ⌜ Shape (now t) c ⌝ }
     requires { ⌜ memorySize ≤ length (now m) ⌝ }
     ensures { λ r. ⌜ outcome r (now (m .exit)) [] ≡ periodicIn on (now (t .entry)) c (now (m .entry)) ⌝ }

@@ -31,14 +31,15 @@ pub fn start(t: &[u8], m: &mut [u8]) -> Answer
 {
     let verdict = table::check(t);
     match verdict {
-        Verdict::Accepted(c) => start_accepted(t, c, m),
+        Verdict::Accepted(c) => start_checked(t, c, m),
         Verdict::WrongHeader => Answer::WrongTable,
         Verdict::WrongIpdu(_) => Answer::WrongTable,
         Verdict::WrongObject(_) => Answer::WrongTable,
     }
 }
 
-fn start_accepted(t: &[u8], c: Counts, m: &mut [u8]) -> Answer
+// Starts the layer over a table that was accepted.
+pub fn start_checked(t: &[u8], c: Counts, m: &mut [u8]) -> Answer
     requires { ⌜ Right (now t) c ⌝ }
     ensures { λ r. ⌜ outcome r (now (m .exit)) [] ≡ startOf (Accepted c) (now (t .entry)) (now (m .entry)) ⌝ }
 {

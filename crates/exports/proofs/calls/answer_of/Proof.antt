@@ -3,8 +3,6 @@
 use borrow.Author.Needs.{needs}
 use Rattle.exports.proofs.calls.answer_of.Statement.{statement}
 use Rattle.exports.proofs.calls.answer_of.Tie as tie
-use Rattle.layer.proofs.number_of.Reads as number-of-reads
-use Rattle.layer.proofs.value_of.Reads as value-of-reads
 
 number-of-requires : tie.Need-number-of-requires
 number-of-requires c κs = search needs

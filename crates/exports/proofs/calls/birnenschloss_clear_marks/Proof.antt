@@ -5,8 +5,6 @@ use Rattle.exports.proofs.calls.birnenschloss_clear_marks.Statement.{st
 use mathlib.Core.Path.{_≡_, ap}
 use Rattle.exports.specs.Results.{resultOf}
 use Rattle.exports.proofs.calls.birnenschloss_clear_marks.Tie as tie
-use Rattle.exports.proofs.calls.answer_of.Reads as answer-of-reads
-use Rattle.layer.proofs.clear_marks.Reads as clear-marks-reads
 
 clear-marks-requires : tie.Need-clear-marks-requires
 clear-marks-requires c κs = search needs

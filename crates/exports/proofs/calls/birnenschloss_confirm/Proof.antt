@@ -5,8 +5,6 @@ use Rattle.exports.proofs.calls.birnenschloss_confirm.Statement.{statem
 use mathlib.Core.Path.{_≡_, ap}
 use Rattle.exports.specs.Results.{resultOf}
 use Rattle.exports.proofs.calls.birnenschloss_confirm.Tie as tie
-use Rattle.exports.proofs.calls.answer_of.Reads as answer-of-reads
-use Rattle.layer.proofs.confirm.Reads as confirm-reads
 
 confirm-requires : tie.Need-confirm-requires
 confirm-requires c κs = search needs

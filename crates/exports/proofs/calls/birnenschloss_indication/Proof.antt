@@ -5,8 +5,6 @@ use Rattle.exports.proofs.calls.birnenschloss_indication.Statement.{sta
 use mathlib.Core.Path.{_≡_, ap}
 use Rattle.exports.specs.Results.{resultOf}
 use Rattle.exports.proofs.calls.birnenschloss_indication.Tie as tie
-use Rattle.exports.proofs.calls.answer_of.Reads as answer-of-reads
-use Rattle.layer.proofs.indication.Reads as indication-reads
 
 indication-requires : tie.Need-indication-requires
 indication-requires c κs = search needs

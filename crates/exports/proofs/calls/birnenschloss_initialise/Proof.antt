@@ -5,8 +5,6 @@ use Rattle.exports.proofs.calls.birnenschloss_initialise.Statement.{sta
 use mathlib.Core.Path.{_≡_, ap}
 use Rattle.exports.specs.Results.{resultOf}
 use Rattle.exports.proofs.calls.birnenschloss_initialise.Tie as tie
-use Rattle.exports.proofs.calls.answer_of.Reads as answer-of-reads
-use Rattle.layer.proofs.initialise.Reads as initialise-reads
 
 initialise-requires : tie.Need-initialise-requires
 initialise-requires c κs = search needs

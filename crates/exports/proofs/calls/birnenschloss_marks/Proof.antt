@@ -5,8 +5,6 @@ use Rattle.exports.proofs.calls.birnenschloss_marks.Statement.{statemen
 use mathlib.Core.Path.{_≡_, ap}
 use Rattle.exports.specs.Results.{resultOf}
 use Rattle.exports.proofs.calls.birnenschloss_marks.Tie as tie
-use Rattle.exports.proofs.calls.answer_of.Reads as answer-of-reads
-use Rattle.layer.proofs.marks.Reads as marks-reads
 
 marks-requires : tie.Need-marks-requires
 marks-requires c κs = search needs

@@ -5,8 +5,6 @@ use Rattle.exports.proofs.calls.birnenschloss_receive.Statement.{statem
 use mathlib.Core.Path.{_≡_, ap}
 use Rattle.exports.specs.Results.{resultOf}
 use Rattle.exports.proofs.calls.birnenschloss_receive.Tie as tie
-use Rattle.exports.proofs.calls.answer_of.Reads as answer-of-reads
-use Rattle.layer.proofs.receive.Reads as receive-reads
 
 receive-requires : tie.Need-receive-requires
 receive-requires c κs = search needs

@@ -5,8 +5,6 @@ use Rattle.exports.proofs.calls.birnenschloss_send.Statement.{statement
 use mathlib.Core.Path.{_≡_, ap}
 use Rattle.exports.specs.Results.{resultOf}
 use Rattle.exports.proofs.calls.birnenschloss_send.Tie as tie
-use Rattle.exports.proofs.calls.answer_of.Reads as answer-of-reads
-use Rattle.layer.proofs.send.Reads as send-reads
 
 send-requires : tie.Need-send-requires
 send-requires c κs = search needs

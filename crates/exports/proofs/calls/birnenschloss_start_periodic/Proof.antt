@@ -5,8 +5,6 @@ use Rattle.exports.proofs.calls.birnenschloss_start_periodic.Statement.
 use mathlib.Core.Path.{_≡_, ap}
 use Rattle.exports.specs.Results.{resultOf}
 use Rattle.exports.proofs.calls.birnenschloss_start_periodic.Tie as tie
-use Rattle.exports.proofs.calls.answer_of.Reads as answer-of-reads
-use Rattle.layer.proofs.start_periodic.Reads as start-periodic-reads
 
 start-periodic-requires : tie.Need-start-periodic-requires
 start-periodic-requires c κs = search needs

@@ -5,8 +5,6 @@ use Rattle.exports.proofs.calls.birnenschloss_status.Statement.{stateme
 use mathlib.Core.Path.{_≡_, ap}
 use Rattle.exports.specs.Results.{resultOf}
 use Rattle.exports.proofs.calls.birnenschloss_status.Tie as tie
-use Rattle.exports.proofs.calls.answer_of.Reads as answer-of-reads
-use Rattle.layer.proofs.status.Reads as status-reads
 
 status-requires : tie.Need-status-requires
 status-requires c κs = search needs

@@ -5,8 +5,6 @@ use Rattle.exports.proofs.calls.birnenschloss_stop.Statement.{statement
 use mathlib.Core.Path.{_≡_, ap}
 use Rattle.exports.specs.Results.{resultOf}
 use Rattle.exports.proofs.calls.birnenschloss_stop.Tie as tie
-use Rattle.exports.proofs.calls.answer_of.Reads as answer-of-reads
-use Rattle.layer.proofs.stop.Reads as stop-reads
 
 stop-requires : tie.Need-stop-requires
 stop-requires c κs = search needs

@@ -5,8 +5,6 @@ use Rattle.exports.proofs.calls.birnenschloss_stop_periodic.Statement.{
 use mathlib.Core.Path.{_≡_, ap}
 use Rattle.exports.specs.Results.{resultOf}
 use Rattle.exports.proofs.calls.birnenschloss_stop_periodic.Tie as tie
-use Rattle.exports.proofs.calls.answer_of.Reads as answer-of-reads
-use Rattle.layer.proofs.stop_periodic.Reads as stop-periodic-reads
 
 stop-periodic-requires : tie.Need-stop-periodic-requires
 stop-periodic-requires c κs = search needs

@@ -14,8 +14,6 @@ use Rattle.layer.proofs.Laws.{Open, admission-open, on-front, reads-fro
 use Rattle.layer.specs.Step.{step}
 use Rattle.layer.specs.Calls.{statusIn}
 use Rattle.layer.proofs.calls.status.Tie as tie
-use Rattle.layer.proofs.checks.admit.Reads as admit-reads
-use Rattle.layer.proofs.objects.status_checked.Reads as status-checked-reads
 
 admit-requires : tie.Need-admit-requires
 admit-requires c κs = search needs

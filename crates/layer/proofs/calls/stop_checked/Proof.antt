@@ -4,7 +4,6 @@ use borrow.Author.Needs.{needs}
 use Rattle.layer.specs.Calls.{stopIn}
 use Rattle.layer.proofs.calls.stop_checked.Statement.{statement}
 use Rattle.layer.proofs.calls.stop_checked.Tie as tie
-use Rattle.memory.proofs.write8.Reads as write8-reads
 
 write8-requires : tie.Need-write8-requires
 write8-requires c κs = search needs

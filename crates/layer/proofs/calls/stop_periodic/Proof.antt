@@ -14,8 +14,6 @@ use Rattle.layer.proofs.Laws.{Open, admission-open, on-front, reads-fro
 use Rattle.layer.specs.Step.{step}
 use Rattle.layer.specs.Calls.{periodicIn}
 use Rattle.layer.proofs.calls.stop_periodic.Tie as tie
-use Rattle.layer.proofs.calls.set_periods.Reads as set-periods-reads
-use Rattle.layer.proofs.checks.admit.Reads as admit-reads
 
 admit-requires : tie.Need-admit-requires
 admit-requires c κs = search needs
@@ -23,18 +21,18 @@ admit-requires c κs = search needs
 enum-known-admission : tie.Need-enum-known-admission
 enum-known-admission c = search needs
 
-slice-relend-prefix-set-periods : tie.Need-slice-relend-prefix-set-periods
-slice-relend-prefix-set-periods c =
+slice-relend-prefix-periodic-checked : tie.Need-slice-relend-prefix-periodic-checked
+slice-relend-prefix-periodic-checked c =
     let o = admission-open (c .before .before .before .before .before .before .before .args .t .now) (c .before .before .before .before .before .before .before .args .m .now) true (λ i. c .before .before .before .before .before .before .shared-slice-known .given i .fits) (λ i. c .before .before .before .before .before .slice-known .given i .fits) _ (sym (c .before .before .before .admit .ensures) ∙ c .before .admission .given .1) in
     o .long
 
-slice-aggregate-set-periods : tie.Need-slice-aggregate-set-periods
-slice-aggregate-set-periods c =
+slice-aggregate-periodic-checked : tie.Need-slice-aggregate-periodic-checked
+slice-aggregate-periodic-checked c =
     let o = admission-open (c .before .before .before .before .before .before .before .before .args .t .now) (c .before .before .before .before .before .before .before .before .args .m .now) true (λ i. c .before .before .before .before .before .before .before .shared-slice-known .given i .fits) (λ i. c .before .before .before .before .before .before .slice-known .given i .fits) _ (sym (c .before .before .before .before .admit .ensures) ∙ c .before .before .admission .given .1) in
     sym (o .exact)
 
-set-periods-requires : tie.Need-set-periods-requires
-set-periods-requires c κs =
+periodic-checked-requires : tie.Need-periodic-checked-requires
+periodic-checked-requires c κs =
     let o = admission-open (c .before .before .before .before .before .before .before .before .args .t .now) (c .before .before .before .before .before .before .before .before .args .m .now) true (λ i. c .before .before .before .before .before .before .before .shared-slice-known .given i .fits) (λ i. c .before .before .before .before .before .before .slice-known .given i .fits) _ (sym (c .before .before .before .before .admit .ensures) ∙ c .before .before .admission .given .1) in
     (o .ready .right .shape, omega (arith, o .ready .long))
 
@@ -46,7 +44,7 @@ same-length c = search needs
 
 returns : tie.Need-returns
 unfolding step
-returns c = rw (sym (c .before .before .before .before .before .before .before .admit .ensures) ∙ c .before .before .before .before .before .admission .given .1) (on-front (periodicIn false (c .before .before .before .before .before .before .before .before .before .before .before .args .t .now) (c .before .before .before .before .before .admission .given .0 .0)) (c .before .before .before .before .before .before .before .before .before .before .before .args .m .now) _ _ _ (c .before .before .set-periods .ensures))
+returns c = rw (sym (c .before .before .before .before .before .before .before .admit .ensures) ∙ c .before .before .before .before .before .admission .given .1) (on-front (periodicIn false (c .before .before .before .before .before .before .before .before .before .before .before .args .t .now) (c .before .before .before .before .before .admission .given .0 .0)) (c .before .before .before .before .before .before .before .before .before .before .before .args .m .now) _ _ _ (c .before .before .periodic-checked .ensures))
 
 same-length-2 : tie.Need-same-length-2
 same-length-2 c = search needs
@@ -61,9 +59,9 @@ stop-periodic-spec =
     (tie.spec
     admit-requires
     enum-known-admission
-    slice-relend-prefix-set-periods
-    slice-aggregate-set-periods
-    set-periods-requires
+    slice-relend-prefix-periodic-checked
+    slice-aggregate-periodic-checked
+    periodic-checked-requires
     enum-known-admission-2
     same-length
     returns

@@ -6,8 +6,6 @@ use mathlib.Core.Path.{_≡_, refl, sym, ap, ap₂, _∙_}
 use Rattle.table.proofs.Accepted.{accepted-right}
 use Rattle.layer.specs.Answers.{admission}
 use Rattle.layer.proofs.checks.admit.Tie as tie
-use Rattle.layer.proofs.checks.admit_memory.Reads as admit-memory-reads
-use Rattle.table.proofs.check.Reads as check-reads
 
 check-requires : tie.Need-check-requires
 check-requires c κs = search needs

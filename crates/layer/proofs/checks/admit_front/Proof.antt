@@ -7,8 +7,6 @@ use borrow.Author.Tests.{leb-true, lt-ltb, le-ltb, ltb-true, eq-eqb, ne-eqb, not
 use native.Mathlib.Omega.{arith}
 use Rattle.state.specs.Layout.{stoppedAt}
 use Rattle.layer.proofs.checks.admit_front.Tie as tie
-use Rattle.memory.proofs.read8.Reads as read8-reads
-use Rattle.state.proofs.in_range.Reads as in-range-reads
 
 in-range-requires : tie.Need-in-range-requires
 in-range-requires c κs = search needs

@@ -12,7 +12,6 @@ use lib.Seq.{length-take-le}
 use Rattle.memory.proofs.Tests.{and-split}
 use Rattle.layer.proofs.checks.admit_memory.Statement.{statement}
 use Rattle.layer.proofs.checks.admit_memory.Tie as tie
-use Rattle.layer.proofs.checks.admit_front.Reads as admit-front-reads
 
 returns : tie.Need-returns
 returns c = rw (not-true (leb 8192 (length (c .before .before .before .args .m .now)) && c .before .before .before .args .fits) (c .if1 .taken))

@@ -3,9 +3,6 @@
 use borrow.Author.Needs.{needs}
 use Rattle.layer.proofs.frames.confirm_checked.Statement.{statement}
 use Rattle.layer.proofs.frames.confirm_checked.Tie as tie
-use Rattle.layer.proofs.checks.is_ipdu.Reads as is-ipdu-reads
-use Rattle.layer.proofs.frames.confirm_mark.Reads as confirm-mark-reads
-use Rattle.message.proofs.mark_objects.Reads as mark-objects-reads
 use mathlib.Core.Path.{_≡_, refl, sym, ap, ap₂, _∙_}
 use Prim.Native.Nat.{ℕ, _≤_}
 use native.Mathlib.Omega.{arith}
@@ -13,9 +10,6 @@ use borrow.Author.Tests.{leb-true, lt-ltb, le-ltb, ltb-true, eq-eqb, ne-eqb, not
 use Rattle.state.specs.declared.IpduState.{IpduState}
 use Rattle.layer.specs.Calls.{confirmIn}
 use Rattle.layer.proofs.Laws.{ipdu-there}
-use Rattle.state.proofs.ipdu_state.Reads as ipdu-state-reads
-use Rattle.table.proofs.decode_ipdu.Reads as decode-ipdu-reads
-use Rattle.transmission.proofs.confirm.Reads as confirm-reads
 
 is-ipdu-requires : tie.Need-is-ipdu-requires
 is-ipdu-requires c κs = search needs

@@ -3,7 +3,6 @@
 use borrow.Author.Needs.{needs}
 use Rattle.layer.proofs.frames.good_indication.Statement.{statement}
 use Rattle.layer.proofs.frames.good_indication.Tie as tie
-use Rattle.memory.proofs.copy.Reads as copy-reads
 use mathlib.Core.Path.{_≡_, refl, sym, ap, ap₂, _∙_}
 use mathlib.Core.Logic.{inl}
 use Prim.Native.Nat.{ℕ, _+_, _*_, _≤_, _<_}
@@ -14,9 +13,6 @@ use Rattle.table.specs.declared.Ipdu.{Ipdu}
 use Rattle.table.specs.Decode.{ipduOf}
 use Rattle.state.proofs.Ready.{ready-bytes}
 use Rattle.layer.proofs.Laws.{ipdu-short}
-use Rattle.message.proofs.deliver_frame.Reads as deliver-frame-reads
-use Rattle.table.proofs.decode_ipdu.Reads as decode-ipdu-reads
-use Rattle.transmission.proofs.set_timer.Reads as set-timer-reads
 
 decode-ipdu-requires : tie.Need-decode-ipdu-requires
 decode-ipdu-requires c κs = search needs

@@ -8,9 +8,6 @@ use native.Mathlib.Omega.{arith}
 use borrow.Author.Tests.{leb-true, lt-ltb, le-ltb, ltb-true, eq-eqb, ne-eqb, not-true, not-false}
 use Rattle.layer.specs.Calls.{indicationIn}
 use Rattle.layer.proofs.Laws.{ipdu-there}
-use Rattle.layer.proofs.checks.is_ipdu.Reads as is-ipdu-reads
-use Rattle.layer.proofs.frames.good_indication.Reads as good-indication-reads
-use Rattle.message.proofs.mark_objects.Reads as mark-objects-reads
 
 is-ipdu-requires : tie.Need-is-ipdu-requires
 is-ipdu-requires c κs = search needs

@@ -7,8 +7,6 @@ use native.Mathlib.Omega.{arith}
 use borrow.Author.Tests.{leb-true, lt-ltb, le-ltb, ltb-true, eq-eqb, ne-eqb, not-true, not-false}
 use Rattle.layer.specs.Calls.{clearMarksIn}
 use Rattle.layer.proofs.objects.clear_marks_checked.Tie as tie
-use Rattle.state.proofs.object_state.Reads as object-state-reads
-use Rattle.state.proofs.set_object_state.Reads as set-object-state-reads
 
 returns : tie.Need-returns
 unfolding clearMarksIn

@@ -9,8 +9,6 @@ use Rattle.table.proofs.Accepted.{usable}
 use Rattle.message.proofs.Kept.{ready-placed}
 use Rattle.layer.specs.Calls.{initialiseIn}
 use Rattle.layer.proofs.objects.initialise_checked.Tie as tie
-use Rattle.message.proofs.initialise.Reads as initialise-reads
-use Rattle.table.proofs.decode_object.Reads as decode-object-reads
 
 returns : tie.Need-returns
 unfolding initialiseIn

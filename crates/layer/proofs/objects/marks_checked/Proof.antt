@@ -7,7 +7,6 @@ use borrow.Author.Tests.{leb-true, lt-ltb, le-ltb, ltb-true, eq-eqb, ne-eqb, not
 use Rattle.layer.specs.Calls.{marksIn}
 use Rattle.layer.proofs.objects.marks_checked.Statement.{statement}
 use Rattle.layer.proofs.objects.marks_checked.Tie as tie
-use Rattle.state.proofs.object_state.Reads as object-state-reads
 
 returns : tie.Need-returns
 unfolding marksIn

@@ -3,15 +3,11 @@
 use borrow.Author.Needs.{needs}
 use Rattle.layer.proofs.objects.receive_queued.Statement.{statement}
 use Rattle.layer.proofs.objects.receive_queued.Tie as tie
-use Rattle.layer.proofs.objects.limited.Reads as limited-reads
 use mathlib.Core.Path.{_≡_, refl, sym, ap, _∙_}
 use Prim.Native.Nat.{ℕ, _<_}
 use native.Mathlib.Omega.{arith}
 use borrow.Author.Tests.{leb-true, lt-ltb, le-ltb, ltb-true, eq-eqb, ne-eqb, not-true, not-false}
 use Rattle.state.specs.declared.ObjectState.{ObjectState}
-use Rattle.message.proofs.oldest.Reads as oldest-reads
-use Rattle.message.proofs.take.Reads as take-reads
-use Rattle.state.proofs.object_state.Reads as object-state-reads
 
 object-state-requires : tie.Need-object-state-requires
 object-state-requires c κs = search needs

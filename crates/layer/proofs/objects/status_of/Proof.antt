@@ -4,7 +4,6 @@ use borrow.Author.Needs.{needs}
 use borrow.Author.Tests.{leb-true, lt-ltb, le-ltb, ltb-true, eq-eqb, ne-eqb, not-true, not-false}
 use Rattle.layer.proofs.objects.status_of.Statement.{statement}
 use Rattle.layer.proofs.objects.status_of.Tie as tie
-use Rattle.layer.proofs.objects.limited.Reads as limited-reads
 
 returns : tie.Need-returns
 returns c = rw (eq-eqb _ _ (c .if1 .taken))

@@ -3,16 +3,12 @@
 use borrow.Author.Needs.{needs}
 use Rattle.layer.proofs.sending.request.Statement.{statement}
 use Rattle.layer.proofs.sending.request.Tie as tie
-use Rattle.layer.proofs.sending.wants.Reads as wants-reads
 use mathlib.Core.Path.{_≡_, refl, sym, ap, ap₂, _∙_}
 use Prim.Native.Nat.{_+_, _*_, _≤_, _<_}
 use borrow.Author.Tests.{leb-true, lt-ltb, le-ltb, ltb-true, eq-eqb, ne-eqb, not-true, not-false}
 use native.Mathlib.Omega.{arith}
 use Rattle.layer.specs.Calls.{request}
 use Rattle.layer.proofs.Laws.{wants-some}
-use Rattle.state.proofs.ipdu_state.Reads as ipdu-state-reads
-use Rattle.table.proofs.decode_ipdu.Reads as decode-ipdu-reads
-use Rattle.transmission.proofs.offer.Reads as offer-reads
 
 wants-requires : tie.Need-wants-requires
 wants-requires c κs = search needs

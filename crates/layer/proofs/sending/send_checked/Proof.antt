@@ -3,9 +3,6 @@
 use borrow.Author.Needs.{needs}
 use Rattle.layer.proofs.sending.send_checked.Statement.{statement}
 use Rattle.layer.proofs.sending.send_checked.Tie as tie
-use Rattle.layer.proofs.checks.is_object.Reads as is-object-reads
-use Rattle.layer.proofs.sending.request.Reads as request-reads
-use Rattle.message.proofs.deliver_inside.Reads as deliver-inside-reads
 use mathlib.Core.Path.{_≡_, refl, sym, ap, ap₂, _∙_}
 use Prim.Native.Nat.{ℕ}
 use native.Mathlib.Omega.{arith}
@@ -16,9 +13,6 @@ use mathlib.Core.List.{List}
 use Rattle.table.specs.declared.Object.{Object}
 use Rattle.layer.specs.Calls.{request, filterOf, sendOf, sendIn}
 use Rattle.layer.proofs.Laws.{object-there, has-ipdu, send-dropped, send-passed}
-use Rattle.message.proofs.filter_sent.Reads as filter-sent-reads
-use Rattle.message.proofs.pack.Reads as pack-reads
-use Rattle.table.proofs.decode_object.Reads as decode-object-reads
 
 is-object-requires : tie.Need-is-object-requires
 is-object-requires c κs = search needs

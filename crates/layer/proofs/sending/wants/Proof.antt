@@ -7,9 +7,6 @@ use mathlib.Core.Path.{_≡_, refl, sym, ap, ap₂, _∙_}
 use borrow.Author.Tests.{leb-true, lt-ltb, le-ltb, ltb-true, eq-eqb, ne-eqb, not-true, not-false}
 use native.Mathlib.Omega.{arith}
 use Rattle.layer.specs.Calls.{wants}
-use Rattle.layer.proofs.sending.is_periodic.Reads as is-periodic-reads
-use Rattle.layer.proofs.sending.is_triggered.Reads as is-triggered-reads
-use Rattle.table.proofs.decode_ipdu.Reads as decode-ipdu-reads
 
 returns : tie.Need-returns
 unfolding wants

@@ -3,7 +3,6 @@
 use borrow.Author.Needs.{needs}
 use Rattle.layer.proofs.starting.first_timer.Statement.{statement}
 use Rattle.layer.proofs.starting.first_timer.Tie as tie
-use Rattle.layer.proofs.starting.first_or_next.Reads as first-or-next-reads
 
 enum-told : tie.Need-enum-told
 enum-told c = search needs

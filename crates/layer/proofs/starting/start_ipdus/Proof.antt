@@ -2,7 +2,6 @@
 -- Assumes nothing.
 use Rattle.layer.proofs.starting.start_ipdus.Statement.{statement}
 use Rattle.layer.proofs.starting.start_ipdus.Tie as tie
-use Rattle.layer.proofs.starting.first_timer.Reads as first-timer-reads
 use mathlib.Core.Path.{_≡_, refl, sym, ap, ap₂, _∙_}
 use Prim.Native.Nat.{ℕ, suc, _-_, _≤_}
 use native.Mathlib.Numerals.{unary-clauses}
@@ -11,9 +10,6 @@ use borrow.Author.Needs.{needs}
 use lib.ListN.{length}
 use Rattle.memory.specs.Search.{fold}
 use Rattle.layer.specs.Start.{startIpdu}
-use Rattle.layer.proofs.starting.idle.Reads as idle-reads
-use Rattle.state.proofs.set_ipdu_state.Reads as set-ipdu-state-reads
-use Rattle.table.proofs.decode_ipdu.Reads as decode-ipdu-reads
 
 abbrev Inv-loop : tie.InvT-loop
 Inv-loop t m₀ n k₀ m k = (k ≤ n) × (m ≡ fold k (startIpdu t) m₀) × (length m ≡ length m₀)

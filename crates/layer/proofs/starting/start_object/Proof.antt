@@ -12,9 +12,6 @@ use Rattle.state.specs.declared.ObjectState.{ObjectState}
 use Rattle.state.specs.Layout.{withObjectState}
 use Rattle.layer.specs.Start.{startAs}
 use Rattle.message.specs.Objects.{pack}
-use Rattle.layer.proofs.starting.unused.Reads as unused-reads
-use Rattle.message.proofs.pack.Reads as pack-reads
-use Rattle.state.proofs.set_object_state.Reads as set-object-state-reads
 
 enum-told : tie.Need-enum-told
 enum-told c = search needs

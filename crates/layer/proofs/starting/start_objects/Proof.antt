@@ -16,8 +16,6 @@ use Rattle.state.proofs.Turns.{depth-sum}
 use Rattle.message.proofs.Kept.{right-placed}
 use Rattle.layer.specs.Start.{startObject}
 use Rattle.layer.proofs.starting.start_objects.Tie as tie
-use Rattle.layer.proofs.starting.start_object.Reads as start-object-reads
-use Rattle.table.proofs.decode_object.Reads as decode-object-reads
 
 abbrev Inv-loop : tie.InvT-loop
 Inv-loop t c m₀ n first₀ i₀ m first i = (i ≤ n) × (m ≡ fold i (startObject t c) m₀) × (length m ≡ length m₀) × (first ≡ sum i (λ j. objectRecord t (c .ipdus) j .depth))

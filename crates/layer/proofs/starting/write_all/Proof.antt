@@ -7,9 +7,6 @@ use mathlib.Core.Path.{_≡_, refl, sym, ap, ap₂, _∙_}
 use Rattle.memory.specs.Search.{fold}
 use Rattle.layer.proofs.Fresh.{cleared}
 use Rattle.layer.specs.Start.{startIpdu, startObject, started}
-use Rattle.layer.proofs.starting.start_ipdus.Reads as start-ipdus-reads
-use Rattle.layer.proofs.starting.start_objects.Reads as start-objects-reads
-use Rattle.memory.proofs.clear.Reads as clear-reads
 
 clear-requires : tie.Need-clear-requires
 clear-requires c κs = search needs

@@ -11,7 +11,6 @@ use Rattle.message.specs.Delivery.{frameTurn, deliverFrame}
 use Rattle.message.proofs.Kept.{ready-frame}
 use Rattle.message.proofs.delivery.deliver_frame.Statement.{statement}
 use Rattle.message.proofs.delivery.deliver_frame.Tie as tie
-use Rattle.message.proofs.delivery.frame_turn.Reads as frame-turn-reads
 
 abbrev Inv-loop : tie.InvT-loop
 Inv-loop t c m₀ ipdu n i₀ m i = (i ≤ n) × (m ≡ fold i (frameTurn t c (ipdu .0)) m₀) × (length m ≡ length m₀)

@@ -11,7 +11,6 @@ use Rattle.message.specs.Delivery.{insideTurn, deliverInside}
 use Rattle.message.proofs.Kept.{ready-inside}
 use Rattle.message.proofs.delivery.deliver_inside.Statement.{statement}
 use Rattle.message.proofs.delivery.deliver_inside.Tie as tie
-use Rattle.message.proofs.delivery.inside_turn.Reads as inside-turn-reads
 
 abbrev Inv-loop : tie.InvT-loop
 Inv-loop t c m₀ sender v n i₀ m i = (i ≤ n) × (m ≡ fold i (insideTurn t c (sender .0) v) m₀) × (length m ≡ length m₀)

@@ -3,7 +3,6 @@
 use borrow.Author.Needs.{needs}
 use Rattle.message.proofs.delivery.frame_turn.Statement.{statement}
 use Rattle.message.proofs.delivery.frame_turn.Tie as tie
-use Rattle.message.proofs.objects.deliver.Reads as deliver-reads
 use mathlib.Core.Path.{_≡_, refl, sym, ap, _∙_}
 use Prim.Native.Nat.{_<_}
 use native.Mathlib.Omega.{arith}
@@ -12,9 +11,6 @@ use Rattle.table.specs.declared.ObjectRecord.{ObjectRecord}
 use Rattle.table.specs.Decode.{objectOf}
 use Rattle.table.proofs.Accepted.{usable}
 use Rattle.message.proofs.Kept.{ready-held, ready-period, ready-placed}
-use Rattle.message.proofs.objects.unpack.Reads as unpack-reads
-use Rattle.table.proofs.decode_object.Reads as decode-object-reads
-use Rattle.table.proofs.object_record.Reads as object-record-reads
 
 object-record-requires : tie.Need-object-record-requires
 object-record-requires c κs = search needs

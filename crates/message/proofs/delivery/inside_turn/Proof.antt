@@ -9,9 +9,6 @@ use borrow.Author.Tests.{lt-ltb, le-ltb, eq-eqb, ne-eqb, not-true, not-false}
 use Rattle.table.specs.declared.ObjectRecord.{ObjectRecord}
 use Rattle.table.proofs.Accepted.{usable}
 use Rattle.message.proofs.Kept.{ready-held, ready-period}
-use Rattle.message.proofs.objects.deliver.Reads as deliver-reads
-use Rattle.table.proofs.decode_object.Reads as decode-object-reads
-use Rattle.table.proofs.object_record.Reads as object-record-reads
 
 object-record-requires : tie.Need-object-record-requires
 object-record-requires c κs = search needs

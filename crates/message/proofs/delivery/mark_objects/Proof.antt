@@ -10,7 +10,6 @@ use Rattle.memory.specs.Search.{fold}
 use Rattle.message.specs.Delivery.{markTurn, markObjects}
 use Rattle.message.proofs.delivery.mark_objects.Statement.{statement}
 use Rattle.message.proofs.delivery.mark_objects.Tie as tie
-use Rattle.message.proofs.delivery.mark_turn.Reads as mark-turn-reads
 
 abbrev Inv-loop : tie.InvT-loop
 Inv-loop t c m₀ ipdu mark n i₀ m i = (i ≤ n) × (m ≡ fold i (markTurn t c (ipdu .0) mark) m₀) × (length m ≡ length m₀)

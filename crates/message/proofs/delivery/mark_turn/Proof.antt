@@ -8,9 +8,6 @@ use native.Mathlib.Omega.{arith}
 use borrow.Author.Tests.{lt-ltb, le-ltb, eq-eqb, ne-eqb, not-true, not-false}
 use Rattle.table.specs.declared.ObjectRecord.{ObjectRecord}
 use Rattle.message.specs.Objects.{marked}
-use Rattle.state.proofs.object_state.Reads as object-state-reads
-use Rattle.state.proofs.set_object_state.Reads as set-object-state-reads
-use Rattle.table.proofs.object_record.Reads as object-record-reads
 
 object-record-requires : tie.Need-object-record-requires
 object-record-requires c κs = search needs

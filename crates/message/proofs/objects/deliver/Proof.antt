@@ -3,15 +3,9 @@
 use borrow.Author.Needs.{needs}
 use Rattle.message.proofs.objects.deliver.Statement.{statement}
 use Rattle.message.proofs.objects.deliver.Tie as tie
-use Rattle.filter.proofs.passes.Reads as passes-reads
-use Rattle.message.proofs.objects.delivered.Reads as delivered-reads
-use Rattle.message.proofs.objects.enqueue.Reads as enqueue-reads
 use native.Mathlib.Omega.{arith}
 use Rattle.message.proofs.Laws.{queue-room}
 use Rattle.message.specs.Objects.{deliver}
-use Rattle.message.proofs.objects.place_at.Reads as place-at-reads
-use Rattle.state.proofs.object_state.Reads as object-state-reads
-use Rattle.state.proofs.set_object_state.Reads as set-object-state-reads
 
 object-state-requires : tie.Need-object-state-requires
 object-state-requires c κs = search (needs, c .before .before .pre .0)

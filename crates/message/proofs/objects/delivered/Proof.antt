@@ -5,7 +5,6 @@ use borrow.Author.Tests.{lt-ltb, le-ltb, eq-eqb, ne-eqb, not-true, not-false}
 use Rattle.message.specs.Objects.{filtered, marked, delivered}
 use Rattle.message.proofs.objects.delivered.Statement.{statement}
 use Rattle.message.proofs.objects.delivered.Tie as tie
-use Rattle.message.proofs.objects.filtered.Reads as filtered-reads
 
 filtered-requires : tie.Need-filtered-requires
 filtered-requires c κs = search needs

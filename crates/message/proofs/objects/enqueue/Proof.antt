@@ -4,7 +4,6 @@ use borrow.Author.Needs.{needs}
 use borrow.Author.Tests.{lt-ltb, le-ltb, eq-eqb, ne-eqb, not-true, not-false}
 use Rattle.message.proofs.objects.enqueue.Statement.{statement}
 use Rattle.message.proofs.objects.enqueue.Tie as tie
-use Rattle.memory.proofs.write32.Reads as write32-reads
 
 returns : tie.Need-returns
 returns c = rw (not-true (c .before .before .args .enters) (c .if1 .taken))

@@ -3,11 +3,7 @@
 use borrow.Author.Needs.{needs}
 use Rattle.message.proofs.objects.filter_sent.Statement.{statement}
 use Rattle.message.proofs.objects.filter_sent.Tie as tie
-use Rattle.filter.proofs.passes.Reads as passes-reads
 use mathlib.Core.Path.{_≡_, refl, sym, ap, _∙_}
-use Rattle.message.proofs.objects.filtered.Reads as filtered-reads
-use Rattle.state.proofs.object_state.Reads as object-state-reads
-use Rattle.state.proofs.set_object_state.Reads as set-object-state-reads
 
 object-state-requires : tie.Need-object-state-requires
 object-state-requires c κs = search needs

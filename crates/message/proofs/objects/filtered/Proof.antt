@@ -4,7 +4,6 @@ use borrow.Author.Needs.{needs}
 use Rattle.message.specs.Objects.{filtered}
 use Rattle.message.proofs.objects.filtered.Statement.{statement}
 use Rattle.message.proofs.objects.filtered.Tie as tie
-use Rattle.filter.proofs.next_occurrence.Reads as next-occurrence-reads
 
 next-occurrence-requires : tie.Need-next-occurrence-requires
 next-occurrence-requires c κs = search needs

@@ -4,8 +4,6 @@ use borrow.Author.Needs.{needs}
 use Rattle.message.proofs.objects.initialise.Statement.{statement}
 use Rattle.message.specs.Objects.{pack, initialise}
 use Rattle.message.proofs.objects.initialise.Tie as tie
-use Rattle.message.proofs.objects.initialise_receive.Reads as initialise-receive-reads
-use Rattle.message.proofs.objects.initialise_send.Reads as initialise-send-reads
 
 enum-told : tie.Need-enum-told
 enum-told c = search needs

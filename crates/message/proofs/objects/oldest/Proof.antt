@@ -7,9 +7,6 @@ use native.Mathlib.Omega.{arith}
 use Prim.Native.Nat.{zero-le}
 use Rattle.message.proofs.Laws.{queue-room}
 use Rattle.message.specs.Objects.{oldest}
-use Rattle.memory.proofs.read32.Reads as read32-reads
-use Rattle.message.proofs.objects.place_at.Reads as place-at-reads
-use Rattle.state.proofs.object_state.Reads as object-state-reads
 
 object-state-requires : tie.Need-object-state-requires
 object-state-requires c κs = search needs

@@ -6,7 +6,6 @@ use borrow.Author.Tests.{lt-ltb, le-ltb, eq-eqb, ne-eqb, not-true, not-false}
 use Rattle.message.specs.Objects.{pack}
 use Rattle.message.proofs.objects.pack.Statement.{statement}
 use Rattle.message.proofs.objects.pack.Tie as tie
-use Rattle.bits.proofs.pack_slot.Reads as pack-slot-reads
 
 returns : tie.Need-returns
 unfolding pack

@@ -6,7 +6,6 @@ use Prim.Native.Nat.{_+_}
 use Rattle.message.proofs.Laws.{around-low}
 use Rattle.message.proofs.objects.place_at.Statement.{statement}
 use Rattle.message.proofs.objects.place_at.Tie as tie
-use Rattle.message.proofs.objects.around.Reads as around-reads
 
 add-around : tie.Need-add-around
 add-around c = search needs

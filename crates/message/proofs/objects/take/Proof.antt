@@ -6,9 +6,6 @@ use Rattle.message.proofs.objects.take.Tie as tie
 use native.Mathlib.Omega.{arith}
 use Rattle.message.proofs.Laws.{queue-room}
 use Rattle.message.specs.Objects.{take}
-use Rattle.message.proofs.objects.around.Reads as around-reads
-use Rattle.state.proofs.object_state.Reads as object-state-reads
-use Rattle.state.proofs.set_object_state.Reads as set-object-state-reads
 
 object-state-requires : tie.Need-object-state-requires
 object-state-requires c κs = search needs

@@ -4,7 +4,6 @@ use borrow.Author.Needs.{needs}
 use Rattle.message.specs.Objects.{unpack}
 use Rattle.message.proofs.objects.unpack.Statement.{statement}
 use Rattle.message.proofs.objects.unpack.Tie as tie
-use Rattle.bits.proofs.unpack_slot.Reads as unpack-slot-reads
 
 cast-k : tie.Need-cast-k
 cast-k c = search needs

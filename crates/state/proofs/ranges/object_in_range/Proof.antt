@@ -4,7 +4,6 @@ use borrow.Author.Needs.{needs}
 use Rattle.state.specs.Ranges.{objectInRange}
 use Rattle.state.proofs.ranges.object_in_range.Statement.{statement}
 use Rattle.state.proofs.ranges.object_in_range.Tie as tie
-use Rattle.state.proofs.ranges.one_less.Reads as one-less-reads
 
 one-less-requires : tie.Need-one-less-requires
 one-less-requires c κs = search needs

@@ -15,9 +15,6 @@ use Rattle.state.proofs.Turns.{object-test, depth-sum}
 use native.Mathlib.Omega.{arith}
 use native.Mathlib.Numerals.{unary-clauses}
 use borrow.Author.Needs.{needs}
-use Rattle.state.proofs.ranges.object_in_range.Reads as object-in-range-reads
-use Rattle.state.proofs.rows.object_state.Reads as object-state-reads
-use Rattle.table.proofs.object_record.Reads as object-record-reads
 
 abbrev Inv-loop : tie.InvT-loop
 Inv-loop t m n end first₀ i₀ first i = (i ≤ end) × ((j : ℕ) → j < i → objectOut t (record { ipdus = n; objects = end }) m j ≡ false) × (first ≡ sum i (λ j. objectRecord t n j .depth))

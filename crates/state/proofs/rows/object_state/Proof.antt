@@ -5,9 +5,6 @@ use Rattle.state.proofs.rows.object_state.Statement.{statement}
 use Rattle.state.proofs.rows.object_state.Tie as tie
 use native.Mathlib.Nat.{add-zero}
 use Rattle.state.specs.Layout.{objectState}
-use Rattle.memory.proofs.read16.Reads as read16-reads
-use Rattle.memory.proofs.read32.Reads as read32-reads
-use Rattle.memory.proofs.read8.Reads as read8-reads
 
 cast-a : tie.Need-cast-a
 cast-a c = search needs

@@ -6,9 +6,6 @@ use Rattle.state.proofs.rows.set_object_state.Tie as tie
 use native.Mathlib.Nat.{add-zero}
 use native.Mathlib.Omega.{arith}
 use Rattle.state.specs.Layout.{withObjectState}
-use Rattle.memory.proofs.write16.Reads as write16-reads
-use Rattle.memory.proofs.write32.Reads as write32-reads
-use Rattle.memory.proofs.write8.Reads as write8-reads
 
 cast-a : tie.Need-cast-a
 cast-a c = search needs

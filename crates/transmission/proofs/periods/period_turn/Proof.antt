@@ -3,15 +3,10 @@
 use borrow.Author.Needs.{needs}
 use Rattle.transmission.proofs.periods.period_turn.Statement.{statement}
 use Rattle.transmission.proofs.periods.period_turn.Tie as tie
-use Rattle.state.proofs.ipdu_state.Reads as ipdu-state-reads
-use Rattle.state.proofs.set_ipdu_state.Reads as set-ipdu-state-reads
 use mathlib.Core.Path.{_≡_, refl, sym, ap, _∙_}
 use borrow.Author.Tests.{lt-ltb, le-ltb, eq-eqb, ne-eqb, not-true, not-false}
 use Rattle.table.specs.declared.Ipdu.{Ipdu}
 use Rattle.transmission.specs.Requests.{hasPeriod}
-use Rattle.table.proofs.decode_ipdu.Reads as decode-ipdu-reads
-use Rattle.transmission.proofs.periods.has_period.Reads as has-period-reads
-use Rattle.transmission.proofs.periods.period_set.Reads as period-set-reads
 
 decode-ipdu-requires : tie.Need-decode-ipdu-requires
 decode-ipdu-requires c κs = search needs

@@ -10,7 +10,6 @@ use Rattle.memory.specs.Search.{fold}
 use Rattle.transmission.specs.Requests.{periodTurn, setPeriods}
 use Rattle.transmission.proofs.periods.set_periods.Statement.{statement}
 use Rattle.transmission.proofs.periods.set_periods.Tie as tie
-use Rattle.transmission.proofs.periods.period_turn.Reads as period-turn-reads
 
 abbrev Inv-loop : tie.InvT-loop
 Inv-loop t c m₀ on n k₀ m k = (k ≤ n) × (m ≡ fold k (periodTurn on t) m₀) × (length m ≡ length m₀)

@@ -3,9 +3,6 @@
 use borrow.Author.Needs.{needs}
 use Rattle.transmission.proofs.requests.confirm.Statement.{statement}
 use Rattle.transmission.proofs.requests.confirm.Tie as tie
-use Rattle.state.proofs.ipdu_state.Reads as ipdu-state-reads
-use Rattle.state.proofs.set_ipdu_state.Reads as set-ipdu-state-reads
-use Rattle.transmission.proofs.requests.confirmed.Reads as confirmed-reads
 
 ipdu-state-requires : tie.Need-ipdu-state-requires
 ipdu-state-requires c κs = search needs

@@ -4,7 +4,6 @@ use borrow.Author.Needs.{needs}
 use Rattle.transmission.specs.Requests.{goes}
 use Rattle.transmission.proofs.requests.goes.Statement.{statement}
 use Rattle.transmission.proofs.requests.goes.Tie as tie
-use Rattle.transmission.proofs.requests.may_go.Reads as may-go-reads
 
 may-go-requires : tie.Need-may-go-requires
 may-go-requires c κs = search needs

@@ -8,9 +8,6 @@ use Prim.Native.Nat.{_+_, _*_}
 use native.Mathlib.Omega.{arith}
 use Rattle.memory.proofs.Laws.{bytesOf-front}
 use Rattle.transmission.specs.Requests.{handed}
-use Rattle.memory.proofs.read64.Reads as read64-reads
-use Rattle.memory.proofs.write64.Reads as write64-reads
-use Rattle.transmission.proofs.requests.low_bytes.Reads as low-bytes-reads
 
 cast-at : tie.Need-cast-at
 cast-at c = search needs

@@ -9,7 +9,6 @@ use Rattle.memory.proofs.Laws.{bytes-bits}
 use native.Mathlib.Omega.{arith}
 use Rattle.transmission.proofs.requests.low_bytes.Statement.{statement}
 use Rattle.transmission.proofs.requests.low_bytes.Tie as tie
-use Rattle.bits.proofs.power_of_two.Reads as power-of-two-reads
 
 returns : tie.Need-returns
 returns c = rw (c .if1 .taken) (sym (mod-eq-of-lt (c .before .good .0 .1)))

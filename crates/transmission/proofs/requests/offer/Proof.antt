@@ -3,17 +3,12 @@
 use borrow.Author.Needs.{needs}
 use Rattle.transmission.proofs.requests.offer.Statement.{statement}
 use Rattle.transmission.proofs.requests.offer.Tie as tie
-use Rattle.bits.proofs.power_of_two.Reads as power-of-two-reads
-use Rattle.state.proofs.set_ipdu_state.Reads as set-ipdu-state-reads
 use mathlib.Core.Path.{_≡_, refl, sym, ap, _∙_}
 use Prim.Native.Nat.{_^_, _<_}
 use native.Mathlib.Omega.{arith}
 use borrow.Author.Tests.{lt-ltb, le-ltb, eq-eqb, ne-eqb, not-true, not-false}
 use lib.Pow.{pow-lt}
 use Rattle.transmission.specs.Requests.{goes, offered}
-use Rattle.transmission.proofs.requests.goes.Reads as goes-reads
-use Rattle.transmission.proofs.requests.hand_over.Reads as hand-over-reads
-use Rattle.transmission.proofs.requests.made.Reads as made-reads
 
 goes-requires : tie.Need-goes-requires
 goes-requires c κs = search needs

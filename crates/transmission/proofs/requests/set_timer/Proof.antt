@@ -4,8 +4,6 @@ use borrow.Author.Needs.{needs}
 use Rattle.transmission.proofs.requests.set_timer.Statement.{statement}
 use Rattle.transmission.specs.Requests.{timerSet}
 use Rattle.transmission.proofs.requests.set_timer.Tie as tie
-use Rattle.state.proofs.ipdu_state.Reads as ipdu-state-reads
-use Rattle.state.proofs.set_ipdu_state.Reads as set-ipdu-state-reads
 
 ipdu-state-requires : tie.Need-ipdu-state-requires
 ipdu-state-requires c κs = search needs

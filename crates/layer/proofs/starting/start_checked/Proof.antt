@@ -1,4 +1,4 @@
--- `layer::starting::start_accepted` meets its contract.
+-- `layer::starting::start_checked` meets its contract.
 -- Assumes nothing.
 use borrow.Author.Needs.{needs}
 use mathlib.Core.Path.{_≡_, refl, sym, ap, ap₂, _∙_}
@@ -11,9 +11,8 @@ use lib.Seq.{length-take-le}
 use Rattle.layer.specs.declared.Answer.the-variants.{Done}
 use Rattle.layer.specs.Answers.{Outcome, outcome}
 use Rattle.layer.specs.Start.{started}
-use Rattle.layer.proofs.starting.start_accepted.Statement.{statement}
-use Rattle.layer.proofs.starting.start_accepted.Tie as tie
-use Rattle.layer.proofs.starting.write_all.Reads as write-all-reads
+use Rattle.layer.proofs.starting.start_checked.Statement.{statement}
+use Rattle.layer.proofs.starting.start_checked.Tie as tie
 
 returns : tie.Need-returns
 returns c = rw (lt-leb _ _ (c .if1 .taken))
@@ -42,8 +41,8 @@ returns-2 c =
     (ap (λ (m : List ℕ). outcome (Done 0) m [])
     (ap (λ (f : List ℕ). f ++ drop 8192 (c .before .before .before .before .before .before .before .args .m .now)) (c .before .before .write-all .ensures)))
 
-pub start-accepted-spec : {M : Type 1} → statement M
-start-accepted-spec =
+pub start-checked-spec : {M : Type 1} → statement M
+start-checked-spec =
     tie.close
     (tie.spec
     returns
