@@ -33,7 +33,7 @@ use Rattle.layer.specs.declared.Answer.{Answer}
 use Rattle.layer.specs.declared.Answer.the-variants.{Done, WrongTable, WrongMemory, Stopped}
 use Rattle.layer.specs.Answers.{Outcome, outcome, front, admissionOf, admission, onFront}
 use Rattle.transmission.specs.Requests.{ipdu}
-use Rattle.layer.specs.Calls.{HasIpdu, isObject, isIpdu, isTriggered, isPeriodic, wants, request, filterOf}
+use Rattle.layer.specs.Calls.{HasIpdu, isObject, isIpdu, isTriggered, isPeriodic, wants, request, filterSend}
 
 -- ---- admitted
 
@@ -130,10 +130,10 @@ wants-some t o e =
 
 module _ (t : List ℕ) (o : Object) (i v : ℕ) (area m n : List ℕ) (passed : Bool) (judge : passed ≡ lets o v (objectState m i))
     (row : n ≡ withObjectState m i (filtered passed v (objectState m i))) where
-  pub send-dropped : passed ≡ false → outcome (Done 0) n area ≡ filterOf t o i v area m
+  pub send-dropped : passed ≡ false → outcome (Done 0) n area ≡ filterSend t o i v area m
   send-dropped e = rw (← judge, row, e)
 
-  pub send-passed : (x : Outcome) → passed ≡ true → x ≡ request t o area (pack o v n) → x ≡ filterOf t o i v area m
+  pub send-passed : (x : Outcome) → passed ≡ true → x ≡ request t o area (pack o v n) → x ≡ filterSend t o i v area m
   send-passed x e f =
       rw (← judge)
       (f ∙ ap (λ (k : List ℕ). request t o area (pack o v k)) row ∙ sym (ap (λ (b : Bool). pick b (request t o area (pack o v after)) (outcome (Done 0) after area)) e))

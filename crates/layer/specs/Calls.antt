@@ -73,13 +73,13 @@ request t o area m =
 abbrev pub judged : Bool → List ℕ → Object → ℕ → List ℕ → List ℕ → Outcome
 judged passed t o v area m = pick passed (request t o area (pack o v m)) (outcome (Done 0) m area)
 
-abbrev pub filterOf : List ℕ → Object → ℕ → ℕ → List ℕ → List ℕ → Outcome
-filterOf t o i v area m =
+abbrev pub filterSend : List ℕ → Object → ℕ → ℕ → List ℕ → List ℕ → Outcome
+filterSend t o i v area m =
     judged (lets o v (objectState m i)) t o v area
     (withObjectState m i (filtered (lets o v (objectState m i)) v (objectState m i)))
 
 unfoldable pub sendOf : List ℕ → Counts → ℕ → ℕ → List ℕ → List ℕ → Outcome
-sendOf t c i v area m = filterOf t (object t c i) i v area (deliverInside t c i v m)
+sendOf t c i v area m = filterSend t (object t c i) i v area (deliverInside t c i v m)
 
 unfoldable pub sendIn : List ℕ → Counts → ℕ → ℕ → List ℕ → List ℕ → Outcome
 sendIn t c i v area m = pick (isObject t c 1 i) (sendOf t c i v area m) (outcome WrongId m area)

@@ -1,4 +1,5 @@
 pub mod Answers
 pub mod Start
 pub mod Calls
+pub mod Tick
 pub mod Step

@@ -8,8 +8,9 @@ use lib.ListN.{length}
 use Rattle.layer.specs.Answers.{Outcome, outcome, admission, follow}
 use Rattle.layer.specs.Start.{startCall}
 use Rattle.layer.specs.Calls.{stopIn, sendIn, initialiseIn, receiveIn, statusIn, marksIn, clearMarksIn, periodicIn, indicationIn, confirmIn}
+use Rattle.layer.specs.Tick.{tickIn}
 
--- a call with its arguments: i is an object's number, k an I-PDU's. A send is lent a request area.
+-- a call with its arguments: i is an object's number, k an I-PDU's. A send and a tick are lent a request area.
 pub data Call : Type 0 where
   start : Call
   stop : Call
@@ -23,6 +24,7 @@ pub data Call : Type 0 where
   stopPeriodic : Call
   indication : (k : ℕ) (good : Bool) (bytes : List ℕ) → Call
   confirm : (k : ℕ) (good : Bool) → Call
+  tick : (area : List ℕ) → Call
 
 -- the bytes of a request area that are used
 abbrev pub areaSize : ℕ
@@ -42,6 +44,7 @@ step t startPeriodic m = follow (admission t m true) m [] (λ c. periodicIn true
 step t stopPeriodic m = follow (admission t m true) m [] (λ c. periodicIn false t c)
 step t (indication k good bytes) m = follow (admission t m true) m [] (λ c. indicationIn t c k good bytes)
 step t (confirm k good) m = follow (admission t m true) m [] (λ c. confirmIn t c k good)
+step t (tick area) m = follow (admission t m (leb areaSize (length area))) m area (λ c. tickIn t c area)
 
 -- what a list of calls over one table gives, each on the working memory that the one before left
 abbrev pub run : List ℕ → List Call → List ℕ → List Outcome

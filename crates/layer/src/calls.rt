@@ -14,7 +14,7 @@ ghost use Rattle.table.specs.Check.{Shape};
 ghost use Rattle.state.specs.Layout.{memorySize};
 ghost use Rattle.layer.specs.Answers.{outcome};
 ghost use Rattle.layer.specs.Calls.{stopIn, periodicIn};
-ghost use Rattle.layer.specs.Step.{start, stop, send, initialise, receive, status, marks, clearMarks, startPeriodic, stopPeriodic, indication, confirm, step};
+ghost use Rattle.layer.specs.Step.{start, stop, send, initialise, receive, status, marks, clearMarks, startPeriodic, stopPeriodic, indication, confirm, tick, step};
 
 // Notes that the layer is stopped.
 pub fn stop(t: &[u8], m: &mut [u8]) -> Answer
@@ -141,6 +141,18 @@ pub fn confirm(t: &[u8], m: &mut [u8], number: IpduNumber, good: bool) -> Answer
     let admission = super::admit(t, m, true);
     match admission {
         Admission::Admitted(c) => super::confirm_checked(t, c, &mut m[..MEMORY_SIZE], number, good),
+        Admission::Refused(answer) => answer,
+    }
+}
+
+// Moves all times on by one tick. The result has a bit for each I-PDU that was requested; its bytes are in its slot of the
+// request area.
+pub fn tick(t: &[u8], m: &mut [u8], area: &mut [u8]) -> Answer
+    ensures { λ r. ⌜ outcome r (now (m .exit)) (now (area .exit)) ≡ step (now (t .entry)) (tick (now (area .entry))) (now (m .entry)) ⌝ }
+{
+    let admission = super::admit(t, m, area.len() >= AREA_SIZE);
+    match admission {
+        Admission::Admitted(c) => super::tick_checked(t, c, &mut m[..MEMORY_SIZE], area),
         Admission::Refused(answer) => answer,
     }
 }

@@ -7,6 +7,7 @@ mod frames;
 mod objects;
 mod sending;
 mod starting;
+mod ticking;
 
 pub use calls::clear_marks;
 pub use calls::confirm;
@@ -21,6 +22,7 @@ pub use calls::status;
 pub use calls::stop;
 pub use calls::stop_checked;
 pub use calls::stop_periodic;
+pub use calls::tick;
 pub use checks::admit;
 pub use checks::number_of;
 pub use checks::value_of;
@@ -35,6 +37,7 @@ pub use sending::send_checked;
 pub use starting::start;
 pub use starting::start_checked;
 pub use state::MEMORY_SIZE;
+pub use ticking::tick_checked;
 pub use transmission::AREA_SIZE;
 
 // What a call answers: done, with its result, or why not.

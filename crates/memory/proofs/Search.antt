@@ -68,6 +68,11 @@ any-true n f e = go (found n f)
     go (there i h none here) = (i, h, here)
     go (nowhere none) = absurd (true-not-false e (any-none n f none))
 
+-- what holds of each of two, where it is picked, holds of the one picked
+pub picked {ℓ κ} : {A : Type ℓ} (P : A → Type κ) (b : Bool) (x y : A) → (b ≡ true → P x) → (b ≡ false → P y) → P (pick b x y)
+picked P true x y p q = p refl
+picked P false x y p q = q refl
+
 -- the sum of more numbers is no smaller
 pub sum-more : (n k : ℕ) (f : ℕ → ℕ) → k ≤ n → sum k f ≤ sum n f
 sum-more zero zero f h = zero-le

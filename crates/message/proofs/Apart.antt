@@ -12,7 +12,7 @@ use lib.ListN.{length}
 use Rattle.memory.specs.Bytes.{bytesOf, part, replaced}
 use Rattle.memory.specs.Search.{pick, fold}
 use Rattle.memory.proofs.Laws.{bytesOf-length, part-apart, replaced-length}
-use Rattle.memory.proofs.Search.{fold-keeps, fold-view, fold-at}
+use Rattle.memory.proofs.Search.{picked, fold-keeps, fold-view, fold-at}
 use Rattle.memory.proofs.Tests.{lt-or-le}
 use Rattle.bits.specs.Bits.{unpacked}
 use Rattle.table.specs.declared.Counts.{Counts}
@@ -28,7 +28,7 @@ use Rattle.state.proofs.Ready.{ObjectKept, kept-fits, object-row, ready-kept}
 use Rattle.message.specs.Objects.{object, lets, placeAt, delivered, enters, deliver, startBit, unpack}
 use Rattle.message.specs.Delivery.{deliverInside, deliverFrame}
 use Rattle.message.proofs.Laws.{queue-room}
-use Rattle.message.proofs.Kept.{ready-held, kept-delivered, picked, ready-deliver, unpack-lt}
+use Rattle.message.proofs.Kept.{ready-held, kept-delivered, ready-deliver, unpack-lt}
 
 -- a part of row j lies before row i or after it, and before the queues
 other-row : (i j o w : ℕ) → (j ≡ i → ⊥) → j < 128 → o + w ≤ 16
@@ -114,13 +114,13 @@ module _ (t : List ℕ) (c : Counts) (m : List ℕ) (ready : Ready t c m) (test 
       fold-keeps (Ready t c) n (deliverTurn t c test value)
       (λ i b l r.
       picked (Ready t c) (test i) (deliver (object t c i) i (value i l) l) l
-      (ready-deliver t c l r i (omega (arith, b, h)) (value i l) (small i (omega (arith, b, h)) l r)) r)
+      (λ e. ready-deliver t c l r i (omega (arith, b, h)) (value i l) (small i (omega (arith, b, h)) l r)) (λ e. r))
       m ready
 
   -- what a delivery to another object keeps
   turn-keeps {κ} : {B : Type κ} (view : List ℕ → B) (i : ℕ) (l : List ℕ)
       → view (deliver (object t c i) i (value i l) l) ≡ view l → view (deliverTurn t c test value i l) ≡ view l
-  turn-keeps view i l e = picked (λ (x : List ℕ). view x ≡ view l) (test i) (deliver (object t c i) i (value i l) l) l e refl
+  turn-keeps view i l e = picked (λ (x : List ℕ). view x ≡ view l) (test i) (deliver (object t c i) i (value i l) l) l (λ y. e) (λ n. refl)
 
   pub turns-slot : (n : ℕ) → n ≤ c .objects → (k : ℕ) → k < 32
       → part (slotAt k) 8 (fold n (deliverTurn t c test value) m) ≡ part (slotAt k) 8 m

@@ -14,7 +14,7 @@ use lib.ListN.{length}
 use Rattle.memory.specs.Bytes.{bytesOf, part, replaced}
 use Rattle.memory.specs.Search.{pick, fold}
 use Rattle.memory.proofs.Laws.{bytesOf-length, bytesOf-bytes, part-length, replaced-length}
-use Rattle.memory.proofs.Search.{fold-keeps}
+use Rattle.memory.proofs.Search.{picked, fold-keeps}
 use Rattle.memory.proofs.Tests.{true-or-false, lt-or-le}
 use Rattle.bits.specs.Bits.{packed, unpacked}
 use Rattle.bits.proofs.Laws.{packed-length, packed-bytes, unpacked-lt}
@@ -223,10 +223,6 @@ module _ (t : List ℕ) (c : Counts) (m : List ℕ) (ready : Ready t c m) (i : �
 
 -- ---- turns, and all of them
 
-pub picked {ℓ} : {A : Type 0} (P : A → Type ℓ) (b : Bool) (x y : A) → P x → P y → P (pick b x y)
-picked P true x y p q = p
-picked P false x y p q = q
-
 -- the value unpacked fits 32 bits
 pub unpack-lt : (t : List ℕ) (c : Counts) (m : List ℕ) → Ready t c m → (i : ℕ) → i < c .objects → unpack (object t c i) m < 2 ^ 32
 unfolding unpack
@@ -240,7 +236,8 @@ module _ (t : List ℕ) (c : Counts) where
   pub ready-inside-turn : (sender v : ℕ) → v < 2 ^ 32 → (i : ℕ) → i < c .objects → (m : List ℕ) → Ready t c m
       → Ready t c (insideTurn t c sender v i m)
   ready-inside-turn sender v low i h m ready =
-      picked (Ready t c) (eqb (objectRecord t (c .ipdus) i .sender) sender) (deliver (object t c i) i v m) m (ready-deliver t c m ready i h v low) ready
+      picked (Ready t c) (eqb (objectRecord t (c .ipdus) i .sender) sender) (deliver (object t c i) i v m) m
+      (λ e. ready-deliver t c m ready i h v low) (λ e. ready)
 
   pub ready-inside : (sender v n : ℕ) → v < 2 ^ 32 → n ≤ c .objects → (m : List ℕ) → Ready t c m → Ready t c (fold n (insideTurn t c sender v) m)
   ready-inside sender v n low h =
@@ -253,7 +250,7 @@ module _ (t : List ℕ) (c : Counts) where
       turn i b m ready =
           let below : i < c .objects = omega (arith, b, h) in
           picked (Ready t c) (eqb (objectRecord t (c .ipdus) i .ipdu) k) (deliver (object t c i) i (unpack (object t c i) m) m) m
-          (ready-deliver t c m ready i below (unpack (object t c i) m) (unpack-lt t c m ready i below)) ready
+          (λ e. ready-deliver t c m ready i below (unpack (object t c i) m) (unpack-lt t c m ready i below)) (λ e. ready)
 
   pub ready-mark : (k mark n : ℕ) → mark ≤ 15 → n ≤ c .objects → (m : List ℕ) → Ready t c m → Ready t c (fold n (markTurn t c k mark) m)
   ready-mark k mark n low h = fold-keeps (Ready t c) n (markTurn t c k mark) turn
@@ -262,5 +259,7 @@ module _ (t : List ℕ) (c : Counts) where
       turn i b m ready =
           let below : i < c .objects = omega (arith, b, h) in
           picked (Ready t c) (eqb (objectRecord t (c .ipdus) i .ipdu) k) (withObjectState m i (marked mark (objectState m i))) m
-          (ready-object t c m ready i below (marked mark (objectState m i))
-          (kept-marked (objectRecord t (c .ipdus) i .depth) (depths t c i) mark (objectState m i) low (ready-kept t c m ready i below))) ready
+          (λ e.
+          ready-object t c m ready i below (marked mark (objectState m i))
+          (kept-marked (objectRecord t (c .ipdus) i .depth) (depths t c i) mark (objectState m i) low (ready-kept t c m ready i below)))
+          (λ e. ready)

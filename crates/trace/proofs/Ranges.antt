@@ -31,7 +31,7 @@ use Rattle.state.proofs.Ready.{ObjectKept, ready-kept, ready-object, ready-byte
 use Rattle.message.specs.Objects.{object, around, lets, filtered, take, pack, initialiseAs, initialise}
 use Rattle.message.specs.Delivery.{deliverFrame, markObjects}
 use Rattle.message.proofs.Laws.{around-lt}
-use Rattle.message.proofs.Kept.{kept-queue, picked, ready-frame, ready-mark, ready-pack}
+use Rattle.message.proofs.Kept.{kept-queue, ready-frame, ready-mark, ready-pack}
 use Rattle.transmission.specs.Requests.{ipdu, offered, confirmed, setPeriods, timerSet}
 use Rattle.transmission.proofs.Kept.{kept-wanted, kept-offered, kept-confirmed, ready-send, ready-send-kept, ready-periods, ready-timer}
 use Rattle.layer.specs.Answers.{Outcome, outcome}

@@ -29,16 +29,12 @@ use Rattle.state.proofs.Ready.{ObjectKept, ready-kept, ready-object}
 use Rattle.message.specs.Objects.{object, lets, placeAt, enters, marked, delivered, deliver, unpack}
 use Rattle.message.specs.Delivery.{insideTurn, deliverInside, frameTurn, deliverFrame, markTurn, markObjects}
 use Rattle.message.proofs.Laws.{queue-room}
-use Rattle.message.proofs.Kept.{kept-marked, kept-delivered, picked, ready-held, ready-deliver, ready-queued, unpack-lt}
+use Rattle.message.proofs.Kept.{kept-marked, kept-delivered, ready-held, ready-deliver, ready-queued, unpack-lt}
 use Rattle.transmission.specs.Requests.{ipdu, hasPeriod, periodSet, periodTurn, setPeriods}
 use Rattle.transmission.proofs.Kept.{ready-period-turn}
 use Rattle.trace.proofs.Agree.{Same, same-refl, same-trans, same-object, same-ipdu, same-queue}
 
 -- ---- a send object has no sending object
-
-or-cases : (a b : Bool) → (a || b) ≡ true → (a ≡ true) ⊎ (b ≡ true)
-or-cases true b e = inl refl
-or-cases false b e = inr e
 
 pub send-no-sender : (t : List ℕ) (c : Counts) (m : List ℕ) → Ready t c m → (i : ℕ) → i < c .objects → objectRecord t (c .ipdus) i .kind ≡ 1
     → objectRecord t (c .ipdus) i .sender ≡ 255

@@ -13,7 +13,7 @@ use Rattle.memory.specs.Bytes.{Bytes}
 use Rattle.memory.specs.Search.{pick, fold}
 use Rattle.memory.proofs.Laws.{get-lt}
 use Rattle.memory.proofs.Search.{fold-keeps}
-use Rattle.memory.proofs.Tests.{and-split, true-or-false, true-not-false}
+use Rattle.memory.proofs.Tests.{and-split, or-cases, true-or-false, true-not-false}
 use Rattle.table.specs.declared.Counts.{Counts}
 use Rattle.table.specs.declared.Direction.the-variants.{Send, Receive}
 use Rattle.table.specs.declared.Ipdu.{Ipdu}
@@ -30,7 +30,7 @@ use Rattle.state.specs.Updates.{withWanted}
 use Rattle.state.specs.Ranges.{inRangeAs, ipduInRange, Ready}
 use Rattle.state.proofs.Laws.{IpduFits}
 use Rattle.state.proofs.Ready.{ready-ipdu}
-use Rattle.transmission.specs.Requests.{ipdu, goes, made, offered, confirmed, hasPeriod, periodSet, periodTurn, setPeriods, timerSet}
+use Rattle.transmission.specs.Requests.{ipdu, goes, made, offered, closed, confirmed, hasPeriod, periodSet, periodTurn, setPeriods, timerSet}
 
 -- ---- times of a table fit two bytes
 
@@ -161,23 +161,24 @@ kept-offered p s k = either (goes p s)
     either true = kept-made p s k
     either false = k
 
-pub kept-confirmed : (good : Bool) (p : Ipdu) (s : IpduState) → SendKept p s → SendKept p (confirmed good p s)
-unfolding confirmed
-kept-confirmed good p s k =
+-- a request closed
+pub kept-closed : (d : ℕ) (p : Ipdu) (s : IpduState) → d ≤ p .«minimum_delay» → SendKept p s → SendKept p (closed d s)
+kept-closed d p s h k =
     record {
       requested = omega arith;
       wanted = k .wanted;
       running = k .running;
       periodic = k .periodic;
-      delay = either good;
+      delay = h;
       deadline = omega arith;
       countdown = k .countdown;
       timer = k .timer;
     }
-  where
-    either : (b : Bool) → pick b (p .«minimum_delay») 0 ≤ p .«minimum_delay»
-    either true = omega arith
-    either false = omega arith
+
+pub kept-confirmed : (good : Bool) (p : Ipdu) (s : IpduState) → SendKept p s → SendKept p (confirmed good p s)
+unfolding confirmed
+kept-confirmed true p s k = kept-closed (p .«minimum_delay») p s (omega arith) k
+kept-confirmed false p s k = kept-closed 0 p s (omega arith) k
 
 pub kept-period : (on : Bool) (p : Ipdu) (s : IpduState) → 1 ≤ max (p .period) (p .offset) → SendKept p s → SendKept p (periodSet on p s)
 unfolding periodSet
@@ -224,10 +225,6 @@ has-mode n e z = true-not-false {b = hasPeriod (modeOf n)} e (rw z)
 pub record Periods (r : IpduRecord) : Type 0 where
   pub sent : r .direction ≡ 1
   pub some : 1 ≤ r .period
-
-or-cases : (a b : Bool) → (a || b) ≡ true → (a ≡ true) ⊎ (b ≡ true)
-or-cases true b e = inl refl
-or-cases false b e = inr e
 
 pub periods : (r : IpduRecord) → ipduRight r ≡ true → hasPeriod (modeOf (r .mode)) ≡ true → Periods r
 periods r right has =
@@ -348,11 +345,15 @@ ready-receive t c m ready k h d s kept =
     })
     (kept-receive (ipdu t k) s d kept)
 
+pub ready-receive-kept : (t : List ℕ) (c : Counts) (m : List ℕ) → Ready t c m → (k : ℕ) → k < c .ipdus → ipdu t k .direction ≡ Receive
+    → ReceiveKept (ipdu t k) (ipduState m k)
+ready-receive-kept t c m ready k h d = receive-kept (ipdu t k) (ipduState m k) d (ready .ipdus k h)
+
 pub ready-timer : (t : List ℕ) (c : Counts) (m : List ℕ) → Ready t c m → (k : ℕ) → k < c .ipdus → ipdu t k .direction ≡ Receive
     → Ready t c (withIpduState m k (timerSet (ipdu t k) (ipduState m k)))
 unfolding timerSet
 ready-timer t c m ready k h d =
-    let kept = receive-kept (ipdu t k) (ipduState m k) d (ready .ipdus k h) in
+    let kept = ready-receive-kept t c m ready k h d in
     ready-receive t c m ready k h d _
     (record {
       requested = kept .requested;

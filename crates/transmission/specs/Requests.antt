@@ -44,9 +44,13 @@ offered p s = pick (goes p s) (made p s) s
 unfoldable pub handed : ℕ → ℕ → List ℕ → List ℕ → List ℕ
 handed length k m area = replaced (8 * k) (part (slotAt k) length m ++ replicate (8 - length) 0) area
 
+-- the open request closed, with this delay
+abbrev pub closed : ℕ → IpduState → IpduState
+closed delay s = withDelay delay (withRequest 0 0 s)
+
 -- confirm closes the open request; good sets the delay to M, not good to 0
 unfoldable pub confirmed : Bool → Ipdu → IpduState → IpduState
-confirmed good p s = withDelay (pick good (p .«minimum_delay») 0) (withRequest 0 0 s)
+confirmed good p s = closed (pick good (p .«minimum_delay») 0) s
 
 -- ---- the period of the modes 1 and 2
 

@@ -2,11 +2,18 @@
 // functions work on an accepted table and a working memory that was found in range.
 mod periods;
 mod requests;
+mod ticks;
 
 pub use periods::set_periods;
 pub use requests::confirm;
 pub use requests::offer;
 pub use requests::set_timer;
+pub use ticks::aged;
+pub use ticks::counted;
+pub use ticks::delayed;
+pub use ticks::expires;
+pub use ticks::late;
+pub use ticks::watched;
 
 // The bytes of the request area that are used, eight for each I-PDU.
 pub const AREA_SIZE: usize = 256;

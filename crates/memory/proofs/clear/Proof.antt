@@ -20,10 +20,10 @@ more m i h below j low =
     (eq-or-ne j i)
 
 abbrev Inv-loop : tie.InvT-loop
-Inv-loop m₀ n i₀ m i = (i ≤ n) × ((j : ℕ) → j < i → getD m j 0 ≡ 0) × (length m ≡ length m₀)
+Inv-loop m₀ n at₀ m at = (at ≤ n) × ((j : ℕ) → j < at → getD m j 0 ≡ 0) × (length m ≡ length m₀)
 
 abbrev μ-loop : tie.MeasureT-loop
-μ-loop m₀ n i₀ m i = n - i
+μ-loop m₀ n at₀ m at = n - at
 
 loop-holds : tie.Need-loop-holds Inv-loop μ-loop
 loop-holds c = (search needs, (λ j h. absurd (omega arith)), refl)
@@ -31,8 +31,8 @@ loop-holds c = (search needs, (λ j h. absurd (omega arith)), refl)
 slice-write-m : tie.Need-slice-write-m Inv-loop μ-loop
 slice-write-m c = omega (arith, c .loop-test .taken, c .before .loop .inv .2)
 
-add-i : tie.Need-add-i Inv-loop μ-loop
-add-i c = omega (arith, c .loop-test .taken, c .before .before .good .0 .0)
+add-at : tie.Need-add-at Inv-loop μ-loop
+add-at c = omega (arith, c .loop-test .taken, c .before .before .good .0 .0)
 
 loop-less : tie.Need-loop-less Inv-loop μ-loop
 loop-less c = omega (arith, c .loop-test .taken)
@@ -40,8 +40,8 @@ loop-less c = omega (arith, c .loop-test .taken)
 loop-again : tie.Need-loop-again Inv-loop μ-loop
 loop-again c = (
   omega (arith, c .loop-test .taken),
-  more (c .before .loop .m) (c .before .loop .i) (omega (arith, c .loop-test .taken, c .before .loop .inv .2)) (c .before .loop .inv .1),
-  length-set (c .before .loop .m) (c .before .loop .i) 0 ∙ c .before .loop .inv .2,
+  more (c .before .loop .m) (c .before .loop .at) (omega (arith, c .loop-test .taken, c .before .loop .inv .2)) (c .before .loop .inv .1),
+  length-set (c .before .loop .m) (c .before .loop .at) 0 ∙ c .before .loop .inv .2,
 )
 
 same-length : tie.Need-same-length Inv-loop μ-loop
@@ -61,7 +61,7 @@ clear-spec =
     μ-loop
     loop-holds
     slice-write-m
-    add-i
+    add-at
     loop-less
     loop-again
     same-length

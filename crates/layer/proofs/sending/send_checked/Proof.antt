@@ -11,7 +11,7 @@ use Rattle.table.proofs.Accepted.{usable}
 use Rattle.message.proofs.Kept.{ready-held, ready-period, ready-placed}
 use mathlib.Core.List.{List}
 use Rattle.table.specs.declared.Object.{Object}
-use Rattle.layer.specs.Calls.{request, filterOf, sendOf, sendIn}
+use Rattle.layer.specs.Calls.{request, filterSend, sendOf, sendIn}
 use Rattle.layer.proofs.Laws.{object-there, has-ipdu, send-dropped, send-passed}
 
 is-object-requires : tie.Need-is-object-requires
@@ -40,7 +40,7 @@ unfolding sendIn sendOf
 returns-2 c =
     rw (sym (c .before .before .before .before .before .before .before .before .before .before .before .is-object .ensures) ∙ not-false _ (c .before .before .before .before .before .before .before .before .before .before .if1 .left))
     (send-dropped (c .before .before .before .before .before .before .before .before .before .before .before .before .before .before .before .args .t .now) _ (c .before .before .before .before .before .before .before .before .before .before .before .before .before .before .before .args .number .0) (c .before .before .before .before .before .before .before .before .before .before .before .before .before .before .before .args .v) (c .before .before .before .before .before .before .before .before .before .before .before .before .before .before .before .args .area .now) _ _ _ (c .before .before .before .filter-sent .ensures .0) (c .before .before .before .filter-sent .ensures .1) (not-true _ (c .if2 .taken))
-    ∙ ap₂ (λ (o : Object) (m : List ℕ). filterOf (c .before .before .before .before .before .before .before .before .before .before .before .before .before .before .before .args .t .now) o (c .before .before .before .before .before .before .before .before .before .before .before .before .before .before .before .args .number .0) (c .before .before .before .before .before .before .before .before .before .before .before .before .before .before .before .args .v) (c .before .before .before .before .before .before .before .before .before .before .before .before .before .before .before .args .area .now) m) (c .before .before .before .before .before .before .before .before .before .decode-object .ensures) (c .before .before .before .before .before .before .before .deliver-inside .ensures))
+    ∙ ap₂ (λ (o : Object) (m : List ℕ). filterSend (c .before .before .before .before .before .before .before .before .before .before .before .before .before .before .before .args .t .now) o (c .before .before .before .before .before .before .before .before .before .before .before .before .before .before .before .args .number .0) (c .before .before .before .before .before .before .before .before .before .before .before .before .before .before .before .args .v) (c .before .before .before .before .before .before .before .before .before .before .before .before .before .before .before .args .area .now) m) (c .before .before .before .before .before .before .before .before .before .decode-object .ensures) (c .before .before .before .before .before .before .before .deliver-inside .ensures))
 
 pack-requires : tie.Need-pack-requires
 pack-requires c κs =
@@ -65,7 +65,7 @@ returns-3 c =
     rw (sym (c .before .before .before .before .before .before .before .before .before .before .before .before .before .before .before .before .before .before .before .before .before .before .is-object .ensures) ∙ not-false _ (c .before .before .before .before .before .before .before .before .before .before .before .before .before .before .before .before .before .before .before .before .before .if1 .left))
     (send-passed (c .before .before .before .before .before .before .before .before .before .before .before .before .before .before .before .before .before .before .before .before .before .before .before .before .before .before .args .t .now) _ (c .before .before .before .before .before .before .before .before .before .before .before .before .before .before .before .before .before .before .before .before .before .before .before .before .before .before .args .number .0) (c .before .before .before .before .before .before .before .before .before .before .before .before .before .before .before .before .before .before .before .before .before .before .before .before .before .before .args .v) (c .before .before .before .before .before .before .before .before .before .before .before .before .before .before .before .before .before .before .before .before .before .before .before .before .before .before .args .area .now) _ _ _ (c .before .before .before .before .before .before .before .before .before .before .before .before .before .before .filter-sent .ensures .0) (c .before .before .before .before .before .before .before .before .before .before .before .before .before .before .filter-sent .ensures .1) _ (not-false _ (c .before .before .before .before .before .before .before .before .before .before .before .if2 .left))
     (c .before .before .before .before .request .ensures ∙ ap (λ (m : List ℕ). request (c .before .before .before .before .before .before .before .before .before .before .before .before .before .before .before .before .before .before .before .before .before .before .before .before .before .before .args .t .now) (c .before .before .before .before .before .before .before .before .before .before .before .before .before .before .before .before .before .before .before .before .decode-object .result) (c .before .before .before .before .before .before .before .before .before .before .before .before .before .before .before .before .before .before .before .before .before .before .before .before .before .before .args .area .now) m) (c .before .before .before .before .before .before .before .before .before .pack .ensures))
-    ∙ ap₂ (λ (o : Object) (m : List ℕ). filterOf (c .before .before .before .before .before .before .before .before .before .before .before .before .before .before .before .before .before .before .before .before .before .before .before .before .before .before .args .t .now) o (c .before .before .before .before .before .before .before .before .before .before .before .before .before .before .before .before .before .before .before .before .before .before .before .before .before .before .args .number .0) (c .before .before .before .before .before .before .before .before .before .before .before .before .before .before .before .before .before .before .before .before .before .before .before .before .before .before .args .v) (c .before .before .before .before .before .before .before .before .before .before .before .before .before .before .before .before .before .before .before .before .before .before .before .before .before .before .args .area .now) m) (c .before .before .before .before .before .before .before .before .before .before .before .before .before .before .before .before .before .before .before .before .decode-object .ensures) (c .before .before .before .before .before .before .before .before .before .before .before .before .before .before .before .before .before .before .deliver-inside .ensures))
+    ∙ ap₂ (λ (o : Object) (m : List ℕ). filterSend (c .before .before .before .before .before .before .before .before .before .before .before .before .before .before .before .before .before .before .before .before .before .before .before .before .before .before .args .t .now) o (c .before .before .before .before .before .before .before .before .before .before .before .before .before .before .before .before .before .before .before .before .before .before .before .before .before .before .args .number .0) (c .before .before .before .before .before .before .before .before .before .before .before .before .before .before .before .before .before .before .before .before .before .before .before .before .before .before .args .v) (c .before .before .before .before .before .before .before .before .before .before .before .before .before .before .before .before .before .before .before .before .before .before .before .before .before .before .args .area .now) m) (c .before .before .before .before .before .before .before .before .before .before .before .before .before .before .before .before .before .before .before .before .decode-object .ensures) (c .before .before .before .before .before .before .before .before .before .before .before .before .before .before .before .before .before .before .deliver-inside .ensures))
 
 pub send-checked-spec : {M : Type 1} → statement M
 send-checked-spec =

@@ -1,0 +1,97 @@
+-- What a tick does to an I-PDU's stored numbers keeps them in their ranges.
+-- Assumes nothing.
+use mathlib.Core.Bool.{Bool, true, false}
+use mathlib.Core.List.{List}
+use Prim.Native.Nat.{ℕ, _-_, _≤_, _<_, max}
+use native.Mathlib.Omega.{arith}
+use lib.Dec.{eqb}
+use Rattle.memory.specs.Search.{pick}
+use Rattle.table.specs.declared.Counts.{Counts}
+use Rattle.table.specs.declared.Ipdu.{Ipdu}
+use Rattle.state.specs.declared.IpduState.{IpduState}
+use Rattle.state.specs.Updates.{withRequest, withWanted, withPeriod}
+use Rattle.transmission.specs.Requests.{closed}
+use Rattle.transmission.specs.Ticks.{delayed, expires, aged, fires, counted, late, watched}
+use Rattle.transmission.proofs.Kept.{SendKept, kept-closed, ReceiveKept}
+
+-- ---- a send I-PDU
+
+module _ (p : Ipdu) (s : IpduState) (k : SendKept p s) where
+  pub kept-delayed : SendKept p (delayed s)
+  unfolding delayed
+  kept-delayed =
+      record {
+        requested = k .requested;
+        wanted = k .wanted;
+        running = k .running;
+        periodic = k .periodic;
+        delay = omega (arith, k .delay);
+        deadline = k .deadline;
+        countdown = k .countdown;
+        timer = k .timer;
+      }
+
+  pub kept-aged : SendKept p (aged s)
+  unfolding aged
+  kept-aged = cases (expires s) (eqb (s .requested) 1)
+    where
+      older : SendKept p (withRequest (s .requested) (s .deadline - 1) s)
+      older =
+          record {
+            requested = k .requested;
+            wanted = k .wanted;
+            running = k .running;
+            periodic = k .periodic;
+            delay = k .delay;
+            deadline = omega (arith, k .deadline);
+            countdown = k .countdown;
+            timer = k .timer;
+          }
+
+      cases : (a b : Bool) → SendKept p (pick a (closed 0 s) (pick b (withRequest (s .requested) (s .deadline - 1) s) s))
+      cases true b = kept-closed 0 p s (omega arith) k
+      cases false true = older
+      cases false false = k
+
+  pub kept-counted : SendKept p (counted p s)
+  unfolding counted
+  kept-counted = cases (fires s) (eqb (s .running) 1)
+    where
+      -- another countdown, and wanted or not
+      next : (w n : ℕ) → w ≤ 1 → n ≤ max (p .period) (p .offset) → SendKept p (withWanted w (withPeriod (s .running) n s))
+      next w n h b =
+          record {
+            requested = k .requested;
+            wanted = h;
+            running = k .running;
+            periodic = k .periodic;
+            delay = k .delay;
+            deadline = k .deadline;
+            countdown = b;
+            timer = k .timer;
+          }
+
+      cases : (a b : Bool)
+          → SendKept p (pick a (withWanted 1 (withPeriod (s .running) (p .period) s)) (pick b (withPeriod (s .running) (s .countdown - 1) s) s))
+      cases true b = next 1 (p .period) (omega arith) (omega arith)
+      cases false true = next (s .wanted) (s .countdown - 1) (k .wanted) (omega (arith, k .countdown))
+      cases false false = k
+
+-- ---- a receive I-PDU
+
+pub kept-watched : (p : Ipdu) (s : IpduState) → ReceiveKept p s → ReceiveKept p (watched p s)
+unfolding watched
+kept-watched p s k =
+    record {
+      requested = k .requested;
+      wanted = k .wanted;
+      running = k .running;
+      delay = k .delay;
+      deadline = k .deadline;
+      countdown = k .countdown;
+      timer = either (late s);
+    }
+  where
+    either : (b : Bool) → pick b (p .deadline) (s .timer - 1) ≤ max (p .«first_deadline») (p .deadline)
+    either true = omega arith
+    either false = omega (arith, k .timer)
