@@ -6,7 +6,7 @@ ghost use mathlib.Core.Bool.{not};
 ghost use mathlib.Core.List.{[]};
 ghost use mathlib.Core.Path.{_≡_};
 ghost use Rattle.layer.specs.Answers.{numberOf, valueOf};
-ghost use Rattle.layer.specs.Step.{start, stop, send, initialise, receive, status, marks, clearMarks, startPeriodic, stopPeriodic, indication, confirm, step};
+ghost use Rattle.layer.specs.Step.{start, stop, send, initialise, receive, status, marks, clearMarks, startPeriodic, stopPeriodic, indication, confirm, tick, step};
 ghost use Rattle.exports.specs.Results.{result, resultOf, isGood};
 
 #[no_mangle]
@@ -108,6 +108,13 @@ pub extern "C" fn birnenschloss_confirm(t: &[u8], m: &mut [u8], ipdu: u32, good:
     ensures { λ r. ⌜ result r (now (m .exit)) [] ≡ resultOf (step (now (t .entry)) (confirm ipdu (isGood good)) (now (m .entry))) ⌝ }
 {
     answer_of(layer::confirm(t, m, IpduNumber(ipdu), good != 0))
+}
+
+#[no_mangle]
+pub extern "C" fn birnenschloss_tick(t: &[u8], m: &mut [u8], area: &mut [u8]) -> Answer
+    ensures { λ r. ⌜ result r (now (m .exit)) (now (area .exit)) ≡ resultOf (step (now (t .entry)) (tick (now (area .entry))) (now (m .entry))) ⌝ }
+{
+    answer_of(layer::tick(t, m, area))
 }
 
 // An answer as its number and value.

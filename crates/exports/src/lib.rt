@@ -16,6 +16,7 @@ pub use calls::birnenschloss_start_periodic;
 pub use calls::birnenschloss_status;
 pub use calls::birnenschloss_stop;
 pub use calls::birnenschloss_stop_periodic;
+pub use calls::birnenschloss_tick;
 ghost use mathlib.Core.Path.{_≡_};
 ghost use Prim.Native.Nat.{_≤_, _<_};
 ghost use lib.ListN.{length};

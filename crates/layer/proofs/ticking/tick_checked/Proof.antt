@@ -45,7 +45,7 @@ same-length-2 c = c .before .loop .inv .4
 
 returns : tie.Need-returns Inv-loop μ-loop
 unfolding tickIn
-returns c = 
+returns c =
     let end : c .before .loop .k ≡ c .before .before .before .before .before .args .c .ipdus = omega (arith, c .before .loop .inv .0, c .loop-test .left) in
     rw end at (ap (λ (a : Ticked). outcome (Done (a .word)) (a .memory) (a .area)) (c .before .loop .inv .1))
 

@@ -21,7 +21,7 @@ enum-told : tie.Need-enum-told
 enum-told c = search needs
 
 tick-send-requires : tie.Need-tick-send-requires
-tick-send-requires c κs = 
+tick-send-requires c κs =
     let few = ipdu-few (c .before .before .before .before .before .before .before .before .args .t .now) (c .before .before .before .before .before .before .before .before .args .c) (c .before .before .before .before .before .before .before .before .pre .0) (c .before .before .before .before .before .before .before .before .args .number .0) (c .before .before .before .before .before .before .before .before .pre .1 .0) in
     (c .before .before .before .before .before .before .before .before .pre .0 .shape, (omega (arith, c .before .before .before .before .before .before .before .before .pre .1 .0, c .before .before .before .before .before .before .before .before .pre .0 .shape .ipdus), c .before .before .before .before .before .before .before .before .pre .1 .1, c .before .before .before .before .before .before .before .before .pre .1 .2, rw (c .before .before .before .before .decode-ipdu .ensures) few, c .before .before .before .before .decode-ipdu .ensures))
 
