@@ -117,7 +117,7 @@ unpacked-ext o start size f g e = number-ext size _ _ e
 
 -- ---- a frame at the front of a slot
 
-front-bit : (f z : List ℕ) (p : ℕ) → p < 8 * length f → frameBit (f ++ z) p ≡ frameBit f p
+pub front-bit : (f z : List ℕ) (p : ℕ) → p < 8 * length f → frameBit (f ++ z) p ≡ frameBit f p
 unfolding frameBit
 front-bit f z p h = ap (λ (b : ℕ). bit b (p % 8)) (List·getD-append f z 0 (p / 8) (omega arith))
 

@@ -1,11 +1,13 @@
 -- Laws of `bit` and `number`: a number is its bits.
 -- Assumes nothing.
+use mathlib.Core.Logic.{_⊎_, inl, inr, ⊎-elim}
 use mathlib.Core.Path.{_≡_, refl, sym, ap, _∙_}
 use Prim.Native.Nat.{ℕ, zero, suc, _+_, _-_, _*_, _/_, _%_, _^_, _≤_, _<_}
-use native.Mathlib.Nat.{pow-succ', div-div-eq-div-mul, add-mul-div-left, add-mul-mod-self-left, mul-assoc, mod-add-div, mod-lt, mod-eq-of-lt, div-eq-of-lt, zero-add, le-of-suc-le-suc, not-suc-le-zero, zero-lt-suc, mul-comm, add-comm, zero-div}
+use native.Mathlib.Nat.{mul-one, pow-succ', div-div-eq-div-mul, add-mul-div-left, add-mul-mod-self-left, mul-assoc, mod-add-div, mod-lt, mod-eq-of-lt, div-eq-of-lt, zero-add, le-of-suc-le-suc, not-suc-le-zero, zero-lt-suc, mul-comm, add-comm, zero-div}
 use native.Mathlib.Omega.{arith}
 use lib.Pow.{pow-pos, shr-shr}
 use lib.Arith.{mod-mul}
+use Rattle.memory.proofs.Tests.{lt-or-le}
 use Rattle.bits.specs.Bits.{bit, number}
 
 pub bit-lt : (n k : ℕ) → bit n k < 2
@@ -43,6 +45,23 @@ pub bit-high : (k b v i : ℕ) → b < 2 ^ k → bit (b + 2 ^ k * v) (k + i) ≡
 bit-high k b v i h =
     sym (bit-div (b + 2 ^ k * v) k i)
     ∙ ap (λ (m : ℕ). bit m i) (add-mul-div-left b v (pow-pos k) ∙ ap (λ (m : ℕ). m + v) (div-eq-of-lt h) ∙ zero-add v)
+
+-- the bits of a number of k bits to which bit k was added
+pub bit-added : (k w i : ℕ) → w < 2 ^ k → bit (w + 2 ^ k) i ≡ 1 → (i ≡ k) ⊎ ((i < k) × (bit w i ≡ 1))
+bit-added k w i low e =
+    ⊎-elim
+    (λ (h : i < k). inr (h, sym (bit-low k w 1 i h) ∙ whole))
+    (λ (h : k ≤ i). inl (above (i - k) (omega (arith, h))))
+    (lt-or-le i k)
+  where
+    whole : bit (w + 2 ^ k * 1) i ≡ 1
+    whole = rw (mul-one (2 ^ k)) e
+
+    above : (d : ℕ) → i ≡ k + d → i ≡ k
+    above zero s = omega (arith, s)
+    above (suc j) s =
+        let one : bit 1 (suc j) ≡ 1 = sym (bit-high k w 1 (suc j) low) ∙ ap (bit (w + 2 ^ k * 1)) (sym s) ∙ whole in
+        absurd (omega (arith, one, bit-suc 1 j ∙ bit-of-zero j))
 
 pub bit-mod : (n k i : ℕ) → i < k → bit (n % 2 ^ k) i ≡ bit n i
 bit-mod n k i h = sym (bit-low k (n % 2 ^ k) (n / 2 ^ k) i h) ∙ ap (λ (m : ℕ). bit m i) (mod-add-div n (2 ^ k))

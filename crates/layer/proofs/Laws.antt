@@ -6,7 +6,7 @@ use mathlib.Core.Logic.{⊎-elim}
 use mathlib.Core.Path.{_≡_, refl, sym, ap, _∙_}
 use Prim.Native.Nat.{ℕ, _+_, _*_, _≤_, _<_}
 use native.Mathlib.Omega.{arith}
-use borrow.Author.Tests.{leb-true, ltb-true, not-true}
+use borrow.Author.Tests.{leb-true, ltb-true, eqb-true, not-true}
 use lib.Dec.{leb, ltb, eqb}
 use lib.ListN.{length, take, drop, take-append-drop}
 use lib.Seq.{length-take-le}
@@ -15,6 +15,8 @@ use Rattle.memory.specs.Search.{pick}
 use Rattle.memory.proofs.Laws.{part-bytes}
 use Rattle.memory.proofs.Tests.{and-split, true-or-false}
 use Rattle.table.specs.declared.Counts.{Counts}
+use Rattle.table.specs.declared.Direction.{Direction}
+use Rattle.table.specs.declared.Direction.the-variants.{Send, Receive}
 use Rattle.table.specs.declared.Object.{Object}
 use Rattle.table.specs.declared.Verdict.{Verdict}
 use Rattle.table.specs.declared.Verdict.the-variants.{Accepted, WrongHeader, WrongIpdu, WrongObject}
@@ -42,6 +44,9 @@ pub record Open (t : List ℕ) (c : Counts) (m : List ℕ) (fits : Bool) : Type 
   pub exact : length (front m) ≡ memorySize
   pub ready : Ready t c (front m)
   pub area : fits ≡ true
+
+receive-not-send : _≡_ {A = Direction} Receive Send → ⊥
+receive-not-send e = let z : _≡_ {A = ℕ} 0 1 = cc in omega arith
 
 refused-not : {c : Counts} (a : Answer) → Refused a ≡ Admitted c → ⊥
 refused-not a e = let z : _≡_ {A = ℕ} 0 1 = cc in omega arith
@@ -102,6 +107,41 @@ object-there t c kind i e = ltb-true i (c .objects) (and-split (ltb i (c .object
 
 pub ipdu-there : (t : List ℕ) (c : Counts) (direction k : ℕ) → isIpdu t c direction k ≡ true → k < c .ipdus
 ipdu-there t c direction k e = ltb-true k (c .ipdus) (and-split (ltb k (c .ipdus)) (eqb (ipduRecord t k .direction) direction) e .0)
+
+-- of the kind and the direction that were checked
+pub object-kind : (t : List ℕ) (c : Counts) (kind i : ℕ) → isObject t c kind i ≡ true → objectRecord t (c .ipdus) i .kind ≡ kind
+object-kind t c kind i e =
+    eqb-true (objectRecord t (c .ipdus) i .kind) kind (and-split (ltb i (c .objects)) (eqb (objectRecord t (c .ipdus) i .kind) kind) e .1)
+
+pub ipdu-direction : (t : List ℕ) (c : Counts) (direction k : ℕ) → isIpdu t c direction k ≡ true → ipduRecord t k .direction ≡ direction
+ipdu-direction t c direction k e =
+    eqb-true (ipduRecord t k .direction) direction (and-split (ltb k (c .ipdus)) (eqb (ipduRecord t k .direction) direction) e .1)
+
+-- directions as the table's numbers
+module _ (t : List ℕ) where
+  pub ipdu-sends : (k : ℕ) → ipduRecord t k .direction ≡ 1 → ipdu t k .direction ≡ Send
+  unfolding ipduOf
+  ipdu-sends k e = rw e
+
+  pub ipdu-receives : (k : ℕ) → ipduRecord t k .direction ≡ 2 → ipdu t k .direction ≡ Receive
+  unfolding ipduOf
+  ipdu-receives k e = rw e
+
+  pub sends-one : (k : ℕ) → ipdu t k .direction ≡ Send → ipduRecord t k .direction ≡ 1
+  unfolding ipduOf
+  sends-one k e =
+      ⊎-elim
+      (λ (y : eqb (ipduRecord t k .direction) 1 ≡ true). eqb-true (ipduRecord t k .direction) 1 y)
+      (λ (n : eqb (ipduRecord t k .direction) 1 ≡ false). absurd (receive-not-send (rw n at e)))
+      (true-or-false (eqb (ipduRecord t k .direction) 1))
+
+  pub object-sends : (c : Counts) (i : ℕ) → eqb (objectRecord t (c .ipdus) i .kind) 1 ≡ true → object t c i .direction ≡ Send
+  unfolding objectOf
+  object-sends c i e = rw e
+
+  pub object-receives : (c : Counts) (i : ℕ) → eqb (objectRecord t (c .ipdus) i .kind) 1 ≡ false → object t c i .direction ≡ Receive
+  unfolding objectOf
+  object-receives c i e = rw e
 
 -- an I-PDU has at most 8 bytes
 pub ipdu-short : (t : List ℕ) (c : Counts) (m : List ℕ) → Ready t c m → (k : ℕ) → k < c .ipdus → ipduRecord t k .length ≤ 8

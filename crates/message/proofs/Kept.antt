@@ -27,6 +27,7 @@ use Rattle.table.specs.Decode.{objectOf, Right}
 use Rattle.table.proofs.Accepted.{Usable, usable}
 use Rattle.state.specs.declared.ObjectState.{ObjectState}
 use Rattle.state.specs.Layout.{memorySize, slotAt, objectState, withObjectState}
+use Rattle.state.specs.Updates.{withOld, withValue, withMarks, withQueue}
 use Rattle.state.specs.Ranges.{Ready}
 use Rattle.state.proofs.Ready.{ObjectKept, InQueues, in-queues, ready-kept, ready-object, ready-bytes}
 use Rattle.message.specs.Objects.{object, Held, Placed, arrived, marked, lets, filtered, around, placeAt, stored, delivered, enters, delivery, deliver, startBit, pack, unpack}
@@ -36,21 +37,24 @@ use Rattle.message.proofs.Laws.{QueueRoom, queue-room}
 -- ---- rows
 
 module _ (depth first : ℕ) where
-  pub kept-marked : (mark : ℕ) (s : ObjectState) → mark ≤ 15 → ObjectKept depth first s → ObjectKept depth first (marked mark s)
-  unfolding marked
-  kept-marked mark s low k =
+  pub kept-marks : (b : ℕ) (s : ObjectState) → b ≤ 15 → ObjectKept depth first s → ObjectKept depth first (withMarks b s)
+  kept-marks b s low k =
       record {
         value = k .value;
         old = k .old;
         occurrence = k .occurrence;
-        marks =
-            let below : bitOr (s .marks) mark < 2 ^ 4 = or-lt 4 (s .marks) mark (omega (arith, k .marks)) (omega (arith, low)) in
-            omega (arith, below);
+        marks = low;
         overflow = k .overflow;
         count = k .count;
         head = k .head;
         queue = k .queue;
       }
+
+  pub kept-marked : (mark : ℕ) (s : ObjectState) → mark ≤ 15 → ObjectKept depth first s → ObjectKept depth first (marked mark s)
+  unfolding marked
+  kept-marked mark s low k =
+      let below : bitOr (s .marks) mark < 2 ^ 4 = or-lt 4 (s .marks) mark (omega (arith, k .marks)) (omega (arith, low)) in
+      kept-marks (bitOr (s .marks) mark) s (omega (arith, below)) k
 
   pub kept-filtered : (passed : Bool) (v : ℕ) (s : ObjectState) → v < 2 ^ 32 → ObjectKept depth first s
       → ObjectKept depth first (filtered passed v s)
@@ -78,7 +82,20 @@ module _ (depth first : ℕ) where
         queue = k .queue;
       }
 
-  kept-value : (v : ℕ) (s : ObjectState) → v < 2 ^ 32 → ObjectKept depth first s → ObjectKept depth first (Rattle.state.specs.Updates.withValue v s)
+  pub kept-old : (v : ℕ) (s : ObjectState) → v < 2 ^ 32 → ObjectKept depth first s → ObjectKept depth first (withOld v s)
+  kept-old v s h k =
+      record {
+        value = k .value;
+        old = h;
+        occurrence = k .occurrence;
+        marks = k .marks;
+        overflow = k .overflow;
+        count = k .count;
+        head = k .head;
+        queue = k .queue;
+      }
+
+  pub kept-value : (v : ℕ) (s : ObjectState) → v < 2 ^ 32 → ObjectKept depth first s → ObjectKept depth first (withValue v s)
   kept-value v s h k =
       record {
         value = h;
@@ -92,7 +109,7 @@ module _ (depth first : ℕ) where
       }
 
   pub kept-queue : (lost oldest n : ℕ) (s : ObjectState) → lost ≤ 1 → n ≤ depth → oldest ≤ depth - 1 → ObjectKept depth first s
-      → ObjectKept depth first (Rattle.state.specs.Updates.withQueue lost oldest n s)
+      → ObjectKept depth first (withQueue lost oldest n s)
   kept-queue lost oldest n s a b d k =
       record {
         value = k .value;

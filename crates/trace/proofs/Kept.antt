@@ -33,13 +33,12 @@ use Rattle.message.proofs.Kept.{kept-filtered, ready-pack, ready-placed}
 use Rattle.transmission.specs.Requests.{ipdu, offered}
 use Rattle.layer.specs.Answers.{Outcome, outcome}
 use Rattle.layer.specs.Calls.{isObject, wants, request, sendIn}
-use Rattle.layer.proofs.Laws.{wants-some}
+use Rattle.layer.proofs.Laws.{object-kind}
 use Rattle.trace.specs.Book.{Entry, Book, enter, sends, lastOf, keeps, counted, sent, bookBit}
 use Rattle.trace.proofs.Rows.{pack-row, pack-front}
 use Rattle.trace.proofs.Frames.{here, inner, judge, after, inner-ready, after-ready, sent-as}
-use Rattle.trace.proofs.Ranges.{request-ready}
 use Rattle.trace.proofs.Agree.{Same, same-refl, same-ipdu, Agrees, agrees-same, pack-bits}
-use Rattle.trace.proofs.Unseen.{Unseen, unseen-inside}
+use Rattle.trace.proofs.Unseen.{Unseen, unseen-inside, unseen-request}
 
 -- ---- a row of a send object set, and perhaps its value packed
 
@@ -149,7 +148,7 @@ module _ (t : List ℕ) (c : Counts) (b : Book) (m : List ℕ) (a : Agrees t c b
   low = here t c m (a .ready) i is v small area
 
   one : objectRecord t (c .ipdus) i .kind ≡ 1
-  one = eqb-true (objectRecord t (c .ipdus) i .kind) 1 (and-split (ltb i (c .objects)) (eqb (objectRecord t (c .ipdus) i .kind) 1) is .1)
+  one = object-kind t c 1 i is
 
   abbrev first : List ℕ
   first = inner t c m (a .ready) i is v small area
@@ -183,17 +182,9 @@ module _ (t : List ℕ) (c : Counts) (b : Book) (m : List ℕ) (a : Agrees t c b
 
   -- a request changes nothing that the book speaks of
   request-agrees : (e : Book) (n : List ℕ) → Agrees t c e n → Agrees t c e (request t (object t c i) area n .memory)
-  unfolding request objectOf
   request-agrees e n x =
-      ⊎-elim
-      (λ (w : wants t (object t c i) ≡ true).
-      let some = wants-some t (object t c i) w in
-      agrees-same t c e n (request t (object t c i) area n .memory) x (request-ready t c n (x .ready) i low area is)
-      (rw w
-      (same-ipdu t c n (x .ready) (objectRecord t (c .ipdus) i .ipdu) (usable t c (x .ready .right) i low .ipdu some .0)
-      (offered (ipdu t (objectRecord t (c .ipdus) i .ipdu)) (withWanted 1 (ipduState n (objectRecord t (c .ipdus) i .ipdu)))))))
-      (λ (w : wants t (object t c i) ≡ false). rw w x)
-      (true-or-false (wants t (object t c i)))
+      let u = unseen-request t c i is area n (x .ready) in
+      agrees-same t c e n (request t (object t c i) area n .memory) x (u .ready) (u .same)
 
   pub agrees-sent : Agrees t c (sent t c b i v) (sendIn t c i v area m .memory)
   agrees-sent =

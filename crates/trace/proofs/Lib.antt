@@ -2,12 +2,13 @@ pub mod Cases
 pub mod Refused
 pub mod Rows
 pub mod Frames
-pub mod Ranges
 pub mod Begin
 pub mod Never
 pub mod Agree
 pub mod Unseen
 pub mod Kept
 pub mod Others
+pub mod Hands
+pub mod Ticked
 pub mod Opening
 pub mod Lists

@@ -29,6 +29,7 @@ use Rattle.state.proofs.Laws.{ipdu-part, object-part, object-length, object-sto
 use Rattle.message.specs.Objects.{object, Placed, pack}
 use Rattle.message.proofs.Kept.{right-placed}
 use Rattle.transmission.specs.Requests.{ipdu}
+use Rattle.layer.proofs.Laws.{object-sends, object-receives}
 use Rattle.layer.specs.Start.{blank, idle, firstTimer, startIpdu, unused, startAs, startObject, started}
 use Rattle.trace.specs.Book.{Entry, Book, enter, openEntry, opened, lastOf, bookBit}
 use Rattle.trace.proofs.Rows.{pack-row}
@@ -174,16 +175,10 @@ module _ (t : List ℕ) (c : Counts) (right : Right t c) (bt : Bytes t) where
   by-direction n h m x =
       ⊎-elim
       (λ (e : eqb (objectRecord t (c .ipdus) n .kind) 1 ≡ true).
-      subst (λ (d : Direction). Opens (suc n) (startAs d (object t c n) n (depths t c n) m)) (sym (sent-direction e)) (sent-more n h m x (eqb-true (objectRecord t (c .ipdus) n .kind) 1 e)))
+      subst (λ (d : Direction). Opens (suc n) (startAs d (object t c n) n (depths t c n) m)) (sym (object-sends t c n e)) (sent-more n h m x (eqb-true (objectRecord t (c .ipdus) n .kind) 1 e)))
       (λ (e : eqb (objectRecord t (c .ipdus) n .kind) 1 ≡ false).
-      subst (λ (d : Direction). Opens (suc n) (startAs d (object t c n) n (depths t c n) m)) (sym (received-direction e)) (received-more n h m x (eqb-false (objectRecord t (c .ipdus) n .kind) 1 e)))
+      subst (λ (d : Direction). Opens (suc n) (startAs d (object t c n) n (depths t c n) m)) (sym (object-receives t c n e)) (received-more n h m x (eqb-false (objectRecord t (c .ipdus) n .kind) 1 e)))
       (true-or-false (eqb (objectRecord t (c .ipdus) n .kind) 1))
-    where
-      sent-direction : eqb (objectRecord t (c .ipdus) n .kind) 1 ≡ true → object t c n .direction ≡ Send
-      sent-direction e = unfold objectOf in rw e
-
-      received-direction : eqb (objectRecord t (c .ipdus) n .kind) 1 ≡ false → object t c n .direction ≡ Receive
-      received-direction e = unfold objectOf in rw e
 
   opens : (n : ℕ) → n ≤ c .objects → Opens n (fold n (startObject t c) (fold (c .ipdus) (startIpdu t) blank))
   opens zero h = opens-none

@@ -11,7 +11,7 @@ use lib.Dec.{ltb, eqb}
 use lib.ListN.{length}
 use Rattle.memory.specs.Bytes.{Bytes, bytesOf, value, part, get, replaced}
 use Rattle.memory.specs.Search.{pick}
-use Rattle.memory.proofs.Laws.{bytesOf-length, part-apart, get-replaced}
+use Rattle.memory.proofs.Laws.{bytesOf-length, bytesOf-bytes, part-apart, get-replaced, replaced-length, replaced-bytes}
 use Rattle.memory.proofs.Tests.{and-split, true-or-false}
 use Rattle.table.specs.declared.Counts.{Counts}
 use Rattle.table.specs.declared.Direction.{Direction}
@@ -20,24 +20,23 @@ use Rattle.table.specs.Records.{ipduRecord, objectRecord}
 use Rattle.table.specs.Check.{depths}
 use Rattle.table.specs.Decode.{ipduOf, objectOf}
 use Rattle.state.specs.declared.ObjectState.{ObjectState}
-use Rattle.state.specs.Layout.{memorySize, stoppedAt, slotAt, objectRow, objectState, withObjectState, ipduState, withIpduState}
+use Rattle.state.specs.Layout.{memorySize, stoppedAt, slotAt, ipduRow, objectRow, objectState, withObjectState, ipduState, withIpduState}
 use Rattle.state.specs.Updates.{withOld, withValue, withMarks, withQueue}
 use Rattle.state.specs.Ranges.{Ready}
-use Rattle.state.proofs.Laws.{object-read}
+use Rattle.state.proofs.Laws.{ipdu-read, object-read}
 use Rattle.state.proofs.Ready.{ObjectKept, ready-kept, ready-object, ready-bytes}
 use Rattle.message.specs.Objects.{object, around, take, pack, initialiseAs, initialise}
 use Rattle.message.specs.Delivery.{deliverFrame, markObjects}
 use Rattle.message.proofs.Laws.{around-lt}
-use Rattle.message.proofs.Kept.{kept-queue}
+use Rattle.message.proofs.Kept.{kept-old, kept-value, kept-marks, kept-queue}
 use Rattle.transmission.specs.Requests.{ipdu, confirmed, timerSet}
-use Rattle.transmission.proofs.Kept.{kept-confirmed, ready-send, ready-send-kept, ready-timer}
+use Rattle.transmission.proofs.Kept.{kept-confirmed, ready-send-kept, ready-timer}
 use Rattle.layer.specs.Answers.{Outcome, outcome}
 use Rattle.layer.specs.Calls.{isObject, isIpdu, stopIn, initialiseIn, receiveIn, statusIn, marksIn, clearMarksIn, periodicIn, indicationOf, indicationIn, confirmIn}
-use Rattle.layer.proofs.Laws.{object-there, ipdu-there, ipdu-short}
+use Rattle.layer.proofs.Laws.{object-there, object-kind, object-sends, object-receives, ipdu-there, ipdu-direction, ipdu-sends, ipdu-receives, ipdu-short}
 use Rattle.trace.specs.Book.{Entry, Book, enter, sends}
-use Rattle.trace.proofs.Ranges.{kept-old, kept-set, unmarked-ready, take-ready, stop-ready}
-use Rattle.trace.proofs.Agree.{Same, same-refl, same-object, same-ipdu, same-slot, Agrees, agrees-same}
-use Rattle.trace.proofs.Unseen.{Unseen, unseen-then, unseen-frame, unseen-mark, unseen-periods}
+use Rattle.trace.proofs.Agree.{Same, same-object, same-slot, Agrees, agrees-same}
+use Rattle.trace.proofs.Unseen.{Unseen, unseen-refl, unseen-then, unseen-object, unseen-ipdu, unseen-send, unseen-frame, unseen-mark, unseen-periods}
 use Rattle.trace.proofs.Kept.{agrees-entry}
 
 module _ (t : List ℕ) (c : Counts) where
@@ -50,27 +49,19 @@ module _ (t : List ℕ) (c : Counts) where
     initialise-send : objectRecord t (c .ipdus) i .kind ≡ 1
         → Agrees t c (record { entries = enter i v (b .entries); counts = b .counts; stopped = b .stopped }) (initialiseAs Send (object t c i) i v m)
     initialise-send one =
-        agrees-entry t c b m a i h v (withOld v (objectState m i)) (kept-old t c m (a .ready) i h v (objectState m i) small own) (b .counts) refl
+        agrees-entry t c b m a i h v (withOld v (objectState m i)) (kept-old (objectRecord t (c .ipdus) i .depth) (depths t c i) v (objectState m i) small own) (b .counts) refl
         (a .count i h one) (λ j ne. refl)
 
     initialise-receive : (objectRecord t (c .ipdus) i .kind ≡ 1 → ⊥) → Agrees t c b (initialiseAs Receive (object t c i) i v m)
     initialise-receive received =
         let s : ObjectState = withOld v (withValue v (withQueue 0 0 0 (objectState m i))) in
         let kept =
-        kept-old t c m (a .ready) i h v (withValue v (withQueue 0 0 0 (objectState m i))) small
-        (kept-set t c m (a .ready) i h v (withQueue 0 0 0 (objectState m i)) small
+        kept-old (objectRecord t (c .ipdus) i .depth) (depths t c i) v (withValue v (withQueue 0 0 0 (objectState m i))) small
+        (kept-value (objectRecord t (c .ipdus) i .depth) (depths t c i) v (withQueue 0 0 0 (objectState m i)) small
         (kept-queue (objectRecord t (c .ipdus) i .depth) (depths t c i) 0 0 0 (objectState m i) (omega arith) (omega arith) (omega arith) own)) in
         agrees-same t c b m (withObjectState m i (withOld v (withValue v (withQueue 0 0 0 (objectState m i))))) a
         (ready-object t c m (a .ready) i h (withOld v (withValue v (withQueue 0 0 0 (objectState m i)))) kept)
         (same-object t c m (a .ready) i h (withOld v (withValue v (withQueue 0 0 0 (objectState m i)))) kept (λ one. absurd (received one)) (λ one. absurd (received one)))
-
-  sent-direction : (i : ℕ) → eqb (objectRecord t (c .ipdus) i .kind) 1 ≡ true → object t c i .direction ≡ Send
-  unfolding objectOf
-  sent-direction i e = rw e
-
-  received-direction : (i : ℕ) → eqb (objectRecord t (c .ipdus) i .kind) 1 ≡ false → object t c i .direction ≡ Receive
-  unfolding objectOf
-  received-direction i e = rw e
 
   by-direction : (b : Book) (m : List ℕ) (i v : ℕ) (d : Direction) → object t c i .direction ≡ d → Agrees t c b (initialiseAs d (object t c i) i v m)
       → Agrees t c b (initialise (object t c i) i v m)
@@ -85,8 +76,8 @@ module _ (t : List ℕ) (c : Counts) where
       (λ (e : ltb i (c .objects) ≡ true).
       let h = ltb-true i (c .objects) e in
       ⊎-elim
-      (λ (k : eqb (objectRecord t (c .ipdus) i .kind) 1 ≡ true). rw (e, k) (by-direction _ m i v Send (sent-direction i k) (initialise-send b m a i v small h (eqb-true (objectRecord t (c .ipdus) i .kind) 1 k))))
-      (λ (k : eqb (objectRecord t (c .ipdus) i .kind) 1 ≡ false). rw (e, k) (by-direction b m i v Receive (received-direction i k) (initialise-receive b m a i v small h (eqb-false (objectRecord t (c .ipdus) i .kind) 1 k))))
+      (λ (k : eqb (objectRecord t (c .ipdus) i .kind) 1 ≡ true). rw (e, k) (by-direction _ m i v Send (object-sends t c i k) (initialise-send b m a i v small h (eqb-true (objectRecord t (c .ipdus) i .kind) 1 k))))
+      (λ (k : eqb (objectRecord t (c .ipdus) i .kind) 1 ≡ false). rw (e, k) (by-direction b m i v Receive (object-receives t c i k) (initialise-receive b m a i v small h (eqb-false (objectRecord t (c .ipdus) i .kind) 1 k))))
       (true-or-false (eqb (objectRecord t (c .ipdus) i .kind) 1)))
       (λ (e : ltb i (c .objects) ≡ false). rw e a)
       (true-or-false (ltb i (c .objects)))
@@ -99,13 +90,7 @@ module _ (t : List ℕ) (c : Counts) where
 
   module _ (m : List ℕ) (ready : Ready t c m) where
     as-found : Unseen t c m m
-    as-found = record { ready = ready; same = same-refl t c m }
-
-    is-kind : (n i : ℕ) → isObject t c n i ≡ true → objectRecord t (c .ipdus) i .kind ≡ n
-    is-kind n i e = eqb-true (objectRecord t (c .ipdus) i .kind) n (and-split (ltb i (c .objects)) (eqb (objectRecord t (c .ipdus) i .kind) n) e .1)
-
-    is-direction : (n k : ℕ) → isIpdu t c n k ≡ true → ipduRecord t k .direction ≡ n
-    is-direction n k e = eqb-true (ipduRecord t k .direction) n (and-split (ltb k (c .ipdus)) (eqb (ipduRecord t k .direction) n) e .1)
+    as-found = unseen-refl t c m ready
 
     -- a value taken from a queue of a receive object
     unseen-take : (i : ℕ) → isObject t c 2 i ≡ true → eqb (objectRecord t (c .ipdus) i .depth) 0 ≡ false
@@ -116,15 +101,11 @@ module _ (t : List ℕ) (c : Counts) where
         let kept = ready-kept t c m ready i h in
         let deep : objectRecord t (c .ipdus) i .depth ≡ 0 → ⊥ = eqb-false (objectRecord t (c .ipdus) i .depth) 0 some in
         let low = around-lt (objectRecord t (c .ipdus) i .depth) (objectState m i .head + 1) (omega (arith, deep, kept .head)) in
-        let two = is-kind 2 i is in
-        record {
-          ready = take-ready t c m ready i h some;
-          same =
-              same-object t c m ready i h (withQueue 0 (around (objectRecord t (c .ipdus) i .depth) (objectState m i .head + 1)) (objectState m i .count - 1) (objectState m i))
-              (kept-queue (objectRecord t (c .ipdus) i .depth) (depths t c i) 0 (around (objectRecord t (c .ipdus) i .depth) (objectState m i .head + 1)) (objectState m i .count - 1)
-              (objectState m i) (omega arith) (omega (arith, kept .count)) (omega (arith, low)) kept)
-              (λ one. absurd (omega (arith, one, two))) (λ one. absurd (omega (arith, one, two)));
-        }
+        let two = object-kind t c 2 i is in
+        unseen-object t c i h (withQueue 0 (around (objectRecord t (c .ipdus) i .depth) (objectState m i .head + 1)) (objectState m i .count - 1) (objectState m i)) m ready
+        (kept-queue (objectRecord t (c .ipdus) i .depth) (depths t c i) 0 (around (objectRecord t (c .ipdus) i .depth) (objectState m i .head + 1)) (objectState m i .count - 1)
+        (objectState m i) (omega arith) (omega (arith, kept .count)) (omega (arith, low)) kept)
+        (λ one. absurd (omega (arith, one, two))) (λ one. absurd (omega (arith, one, two)))
 
     pub unseen-receive : (i : ℕ) → Unseen t c m (receiveIn t c i m .memory)
     unfolding receiveIn
@@ -151,23 +132,8 @@ module _ (t : List ℕ) (c : Counts) where
         pick-unseen (ltb i (c .objects)) m _ _
         (λ e.
         let h = ltb-true i (c .objects) e in
-        let kept = ready-kept t c m ready i h in
-        record {
-          ready = unmarked-ready t c m ready i h;
-          same =
-              same-object t c m ready i h (withMarks 0 (objectState m i))
-              (record {
-                value = kept .value;
-                old = kept .old;
-                occurrence = kept .occurrence;
-                marks = omega arith;
-                overflow = kept .overflow;
-                count = kept .count;
-                head = kept .head;
-                queue = kept .queue;
-              })
-              (λ one. refl) (λ one. refl);
-        })
+        unseen-object t c i h (withMarks 0 (objectState m i)) m ready
+        (kept-marks (objectRecord t (c .ipdus) i .depth) (depths t c i) 0 (objectState m i) (omega arith) (ready-kept t c m ready i h)) (λ one. refl) (λ one. refl))
         as-found
 
     pub unseen-periodic : (on : Bool) → Unseen t c m (periodicIn on t c m .memory)
@@ -181,8 +147,7 @@ module _ (t : List ℕ) (c : Counts) where
         pick-unseen (isIpdu t c 2 k) m _ _
         (λ e.
         let low = ipdu-there t c 2 k e in
-        let two = is-direction 2 k e in
-        let d : ipdu t k .direction ≡ Receive = rw two in
+        let two = ipdu-direction t c 2 k e in
         pick-unseen (eqb (length f) (ipduRecord t k .length)) m _ _
         (λ same.
         let size : length f ≤ 8 = omega (arith, eqb-true (length f) (ipduRecord t k .length) same, ipdu-short t c m ready k low) in
@@ -194,10 +159,8 @@ module _ (t : List ℕ) (c : Counts) where
         let frames = unseen-frame t c k low two (replaced (slotAt k) f m) (copied .ready) in
         let all = unseen-then t c m (replaced (slotAt k) f m) (deliverFrame t c k (replaced (slotAt k) f m)) copied frames in
         unseen-then t c m (deliverFrame t c k (replaced (slotAt k) f m)) _ all
-        (record {
-          ready = ready-timer t c (deliverFrame t c k (replaced (slotAt k) f m)) (all .ready) k low d;
-          same = same-ipdu t c (deliverFrame t c k (replaced (slotAt k) f m)) (all .ready) k low (timerSet (ipdu t k) (ipduState (deliverFrame t c k (replaced (slotAt k) f m)) k));
-        }))
+        (unseen-ipdu t c k low (timerSet (ipdu t k) (ipduState (deliverFrame t c k (replaced (slotAt k) f m)) k)) (deliverFrame t c k (replaced (slotAt k) f m)) (all .ready)
+        (ready-timer t c (deliverFrame t c k (replaced (slotAt k) f m)) (all .ready) k low (ipdu-receives t k two))))
         as-found)
         as-found
 
@@ -207,13 +170,11 @@ module _ (t : List ℕ) (c : Counts) where
         pick-unseen (isIpdu t c 1 k) m _ _
         (λ e.
         let low = ipdu-there t c 1 k e in
-        let one = is-direction 1 k e in
-        let d : ipdu t k .direction ≡ Send = rw one in
-        let closed : Unseen t c m (withIpduState m k (confirmed good (ipdu t k) (ipduState m k))) =
-        record {
-          ready = ready-send t c m ready k low d (confirmed good (ipdu t k) (ipduState m k)) (kept-confirmed good (ipdu t k) (ipduState m k) (ready-send-kept t c m ready k low d));
-          same = same-ipdu t c m ready k low (confirmed good (ipdu t k) (ipduState m k));
-        } in
+        let one = ipdu-direction t c 1 k e in
+        let d = ipdu-sends t k one in
+        let closed =
+        unseen-send t c k low d (confirmed good (ipdu t k) (ipduState m k)) m ready
+        (kept-confirmed good (ipdu t k) (ipduState m k) (ready-send-kept t c m ready k low d)) in
         pick-unseen (eqb (ipduState m k .requested) 0) m _ _ (λ z. as-found)
         (unseen-then t c m (withIpduState m k (confirmed good (ipdu t k) (ipduState m k))) _ closed
         (unseen-mark t c k (pick good 2 8) (few good) (withIpduState m k (confirmed good (ipdu t k) (ipduState m k))) (closed .ready))))
@@ -225,11 +186,34 @@ module _ (t : List ℕ) (c : Counts) where
 
   -- ---- stop
 
+  -- a stopped layer's byte is 1
+  stop-ready : (m : List ℕ) → Ready t c m → Ready t c (stopIn m .memory)
+  unfolding stopIn stoppedAt get
+  stop-ready m ready =
+      record {
+        right = ready .right;
+        tables = ready .tables;
+        long = omega (arith, replaced-length 0 (bytesOf 1 1) m room, ready .long);
+        bytes = replaced-bytes 0 (bytesOf 1 1) m (bytesOf-bytes 1 1) (ready .bytes);
+        stopped = rw (get-replaced 1 0 1 m (omega (arith, ready .long)));
+        ipdus = λ k b. rw (ipdu-read (replaced 0 (bytesOf 1 1) m) m k (λ o w h. same (ipduRow k + o) w (omega arith))) (ready .ipdus k b);
+        objects = λ i b. rw (object-read (replaced 0 (bytesOf 1 1) m) m i (λ o w h. same (objectRow i + o) w (omega arith))) (ready .objects i b);
+      }
+    where
+      one : length (bytesOf 1 1) ≡ 1
+      one = bytesOf-length 1 1
+
+      room : 0 + length (bytesOf 1 1) ≤ length m
+      room = omega (arith, one, ready .long)
+
+      same : (j w : ℕ) → 1 ≤ j → part j w (replaced 0 (bytesOf 1 1) m) ≡ part j w m
+      same j w b = part-apart 0 (bytesOf 1 1) m j w room (inr (omega (arith, one, b)))
+
   pub agrees-stop : (b : Book) (m : List ℕ) → Agrees t c b m → Agrees t c (record { entries = b .entries; counts = b .counts; stopped = true }) (stopIn m .memory)
   unfolding stopIn stoppedAt get
   agrees-stop b m a =
       record {
-        ready = unfold stopIn in stop-ready t c m (a .ready);
+        ready = unfold stopIn in stop-ready m (a .ready);
         stopped = get-replaced 1 0 1 m (omega (arith, a .ready .long));
         old = λ i h k. ap (λ (x : ObjectState). x .old) (row i) ∙ a .old i h k;
         count = λ i h k. ap (λ (x : ObjectState). x .occurrence) (row i) ∙ a .count i h k;

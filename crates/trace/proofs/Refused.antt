@@ -25,7 +25,8 @@ use Rattle.layer.specs.declared.Answer.the-variants.{Done, WrongId, WrongLength
 use Rattle.layer.specs.Answers.{Outcome, outcome, numberOf, front, admission, follow}
 use Rattle.layer.specs.Start.{startOf, startCall}
 use Rattle.layer.specs.Calls.{isObject, isIpdu, stopIn, wants, request, sendOf, sendIn, initialiseIn, limited, receiveIn, statusIn, marksIn, clearMarksIn, periodicIn, indicationIn, confirmIn}
-use Rattle.layer.specs.Step.{Call, start, stop, send, initialise, receive, status, marks, clearMarks, startPeriodic, stopPeriodic, indication, confirm, areaSize, step}
+use Rattle.layer.specs.Tick.{tickIn}
+use Rattle.layer.specs.Step.{Call, start, stop, send, initialise, receive, status, marks, clearMarks, startPeriodic, stopPeriodic, indication, confirm, tick, areaSize, step}
 
 -- the area that a call is lent
 abbrev pub areaOf : Call → List ℕ
@@ -41,6 +42,7 @@ areaOf startPeriodic = []
 areaOf stopPeriodic = []
 areaOf (indication k good bytes) = []
 areaOf (confirm k good) = []
+areaOf (tick area) = area
 
 -- all lent bytes are as found
 pub record Unchanged (m lent : List ℕ) (o : Outcome) : Type 0 where
@@ -120,7 +122,7 @@ start-leaves (WrongObject i) t m = same _ m []
 
 pub refused-leaves : (t : List ℕ) (call : Call) (m : List ℕ) → (numberOf (step t call m .answer) ≡ 0 → ⊥)
     → (numberOf (step t call m .answer) ≡ 3 → ⊥) → Unchanged m (areaOf call) (step t call m)
-unfolding step startCall stopIn initialiseIn marksIn clearMarksIn periodicIn statusIn
+unfolding step startCall stopIn initialiseIn marksIn clearMarksIn periodicIn statusIn tickIn
 refused-leaves t start m = start-leaves (check t) t m
 refused-leaves t stop m = follow-leaves (admission t m true) m [] _ (λ c. did 0 (front m) [] _ [])
 refused-leaves t (send i v area) m = follow-leaves (admission t m (leb areaSize (length area))) m area _ (λ c. send-leaves t c i v area (front m))
@@ -138,6 +140,7 @@ refused-leaves t (clearMarks i) m =
 refused-leaves t startPeriodic m = follow-leaves (admission t m true) m [] _ (λ c. did 0 (front m) [] _ [])
 refused-leaves t stopPeriodic m = follow-leaves (admission t m true) m [] _ (λ c. did 0 (front m) [] _ [])
 refused-leaves t (indication k good bytes) m = follow-leaves (admission t m true) m [] _ (λ c. indication-leaves t c k good bytes (front m))
+refused-leaves t (tick area) m = follow-leaves (admission t m (leb areaSize (length area))) m area _ (λ c. did _ (front m) area _ _)
 refused-leaves t (confirm k good) m = follow-leaves (admission t m true) m [] _ (λ c. confirm-leaves t c k good (front m))
 
 -- a status that answers 3 changes nothing either

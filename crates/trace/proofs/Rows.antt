@@ -11,7 +11,7 @@ use lib.ListN.{length, take, replicate, length-append, length-replicate}
 use lib.Seq.{take-append-seam}
 use Rattle.memory.specs.Bytes.{value, part, get, replaced}
 use Rattle.memory.specs.Search.{pick}
-use Rattle.memory.proofs.Laws.{part-apart, part-replaced, part-length, part-front}
+use Rattle.memory.proofs.Laws.{part-apart, part-replaced, part-length, part-front, replaced-length}
 use Rattle.memory.proofs.Tests.{true-or-false}
 use Rattle.bits.specs.Bits.{packed}
 use Rattle.table.specs.declared.Object.{Object}
@@ -89,20 +89,40 @@ request-row t o area m placed e j = rw e (ipdu-keeps-objects m (o .ipdu .0) (off
     room : ipduRow (o .ipdu .0) + 16 ≤ length m
     room = omega (arith, low, placed .long)
 
--- the slot of the area begins with the I-PDU's bytes
-pub handed-front : (size k : ℕ) (m area : List ℕ) → size ≤ 8 → k < 32 → 256 ≤ length area → slotAt k + 8 ≤ length m
-    → part (8 * k) size (handed size k m area) ≡ part (slotAt k) size m
+-- what is handed over: eight bytes of the slot's
+module _ (size k : ℕ) (m area : List ℕ) (few : size ≤ 8) (low : k < 32) (long : 256 ≤ length area) (room : slotAt k + 8 ≤ length m) where
+  held : length (part (slotAt k) size m) ≡ size
+  held = part-length (slotAt k) size m (omega (arith, few, room))
+
+  eight : length (part (slotAt k) size m ++ replicate (8 - size) 0) ≡ 8
+  eight = length-append (part (slotAt k) size m) (replicate (8 - size) 0) ∙ omega (arith, held, few, length-replicate {A = ℕ} (8 - size) 0)
+
+  -- the slot of the area begins with the I-PDU's bytes
+  pub handed-front : part (8 * k) size (handed size k m area) ≡ part (slotAt k) size m
+  unfolding handed
+  handed-front =
+      let whole : part (8 * k) 8 (replaced (8 * k) (part (slotAt k) size m ++ replicate (8 - size) 0) area) ≡ part (slotAt k) size m ++ replicate (8 - size) 0 =
+      rw eight at (part-replaced (8 * k) (part (slotAt k) size m ++ replicate (8 - size) 0) area (omega (arith, eight, low, long))) in
+      sym (part-front (8 * k) size 8 (replaced (8 * k) (part (slotAt k) size m ++ replicate (8 - size) 0) area) few)
+      ∙ ap (take size) whole
+      ∙ rw held at (take-append-seam (part (slotAt k) size m) (replicate (8 - size) 0))
+
+  pub handed-length : length (handed size k m area) ≡ length area
+  unfolding handed
+  handed-length = replaced-length (8 * k) (part (slotAt k) size m ++ replicate (8 - size) 0) area (omega (arith, eight, low, long))
+
+  -- other slots stay
+  pub handed-other : (j n : ℕ) → j < k → n ≤ 8 → part (8 * j) n (handed size k m area) ≡ part (8 * j) n area
+  unfolding handed
+  handed-other j n below most =
+      part-apart (8 * k) (part (slotAt k) size m ++ replicate (8 - size) 0) area (8 * j) n (omega (arith, eight, low, long)) (inl (omega (arith, below, most)))
+
+-- what is handed over depends on the slot alone
+pub handed-same : (size k : ℕ) (l m area : List ℕ) → size ≤ 8 → part (slotAt k) 8 l ≡ part (slotAt k) 8 m → handed size k l area ≡ handed size k m area
 unfolding handed
-handed-front size k m area few low long room =
-    let f : List ℕ = part (slotAt k) size m ++ replicate (8 - size) 0 in
-    let front : length (part (slotAt k) size m) ≡ size = part-length (slotAt k) size m (omega (arith, few, room)) in
-    let all : length (part (slotAt k) size m ++ replicate (8 - size) 0) ≡ 8 =
-    length-append (part (slotAt k) size m) (replicate (8 - size) 0) ∙ omega (arith, front, few, length-replicate {A = ℕ} (8 - size) 0) in
-    let held : part (8 * k) 8 (replaced (8 * k) (part (slotAt k) size m ++ replicate (8 - size) 0) area) ≡ part (slotAt k) size m ++ replicate (8 - size) 0 =
-    rw all at (part-replaced (8 * k) (part (slotAt k) size m ++ replicate (8 - size) 0) area (omega (arith, all, low, long))) in
-    sym (part-front (8 * k) size 8 (replaced (8 * k) (part (slotAt k) size m ++ replicate (8 - size) 0) area) few)
-    ∙ ap (take size) held
-    ∙ rw front at (take-append-seam (part (slotAt k) size m) (replicate (8 - size) 0))
+handed-same size k l m area few e =
+    ap (λ (f : List ℕ). replaced (8 * k) (f ++ replicate (8 - size) 0) area)
+    (sym (part-front (slotAt k) size 8 l few) ∙ ap (take size) e ∙ part-front (slotAt k) size 8 m few)
 
 -- what a request that was made handed over
 pub record Handed (t : List ℕ) (o : Object) (area m : List ℕ) : Type 0 where

@@ -12,8 +12,8 @@ use lib.ListN.{length}
 use Rattle.memory.specs.Bytes.{bytesOf, replaced}
 use Rattle.memory.specs.Search.{pick, fold}
 use Rattle.memory.proofs.Laws.{bytesOf-length}
-use Rattle.memory.proofs.Search.{fold-keeps}
-use Rattle.memory.proofs.Tests.{and-split, true-or-false, true-not-false}
+use Rattle.memory.proofs.Search.{picked, fold-keeps}
+use Rattle.memory.proofs.Tests.{and-split, or-cases, true-or-false, true-not-false}
 use Rattle.table.specs.declared.Counts.{Counts}
 use Rattle.table.specs.declared.ObjectRecord.{ObjectRecord}
 use Rattle.table.specs.Records.{none, ipduRecord, objectRecord}
@@ -22,6 +22,8 @@ use Rattle.table.specs.Check.{depths}
 use Rattle.table.specs.Decode.{objectOf}
 use Rattle.table.proofs.Accepted.{Usable, usable}
 use Rattle.table.proofs.Facts.{ObjectFacts, object-facts}
+use Rattle.table.specs.declared.Direction.the-variants.{Send, Receive}
+use Rattle.state.specs.declared.IpduState.{IpduState}
 use Rattle.state.specs.declared.ObjectState.{ObjectState}
 use Rattle.state.specs.Layout.{objectState, withObjectState, ipduState, withIpduState}
 use Rattle.state.specs.Ranges.{Ready}
@@ -30,8 +32,12 @@ use Rattle.message.specs.Objects.{object, lets, placeAt, enters, marked, delive
 use Rattle.message.specs.Delivery.{insideTurn, deliverInside, frameTurn, deliverFrame, markTurn, markObjects}
 use Rattle.message.proofs.Laws.{queue-room}
 use Rattle.message.proofs.Kept.{kept-marked, kept-delivered, ready-held, ready-deliver, ready-queued, unpack-lt}
-use Rattle.transmission.specs.Requests.{ipdu, hasPeriod, periodSet, periodTurn, setPeriods}
-use Rattle.transmission.proofs.Kept.{ready-period-turn}
+use Rattle.state.specs.Updates.{withWanted}
+use Rattle.transmission.specs.Requests.{ipdu, offered, hasPeriod, periodSet, periodTurn, setPeriods}
+use Rattle.transmission.proofs.Kept.{SendKept, kept-wanted, kept-offered, ready-send, ready-send-kept, ready-period-turn}
+use Rattle.layer.specs.Answers.{Outcome}
+use Rattle.layer.specs.Calls.{isObject, wants, request}
+use Rattle.layer.proofs.Laws.{object-there, object-kind, ipdu-sends, wants-some}
 use Rattle.trace.proofs.Agree.{Same, same-refl, same-trans, same-object, same-ipdu, same-queue}
 
 -- ---- a send object has no sending object
@@ -60,6 +66,9 @@ module _ (t : List ℕ) (c : Counts) where
     pub ready : Ready t c n
     pub same : Same t c m n
 
+  pub unseen-refl : (m : List ℕ) → Ready t c m → Unseen m m
+  unseen-refl m ready = record { ready = ready; same = same-refl t c m }
+
   pub unseen-then : (l m n : List ℕ) → Unseen l m → Unseen m n → Unseen l n
   unseen-then l m n a b = record { ready = b .ready; same = same-trans t c l m n (a .same) (b .same) }
 
@@ -68,7 +77,15 @@ module _ (t : List ℕ) (c : Counts) where
       → (m : List ℕ) → Ready t c m → Unseen m (fold n turn m)
   unseen-fold n turn each m ready =
       fold-keeps (Unseen m) n turn (λ k h l u. unseen-then m l (turn k l) u (each k h l (u .ready))) m
-      (record { ready = ready; same = same-refl t c m })
+      (unseen-refl m ready)
+
+  -- the row of an object that is not sent, or keeps old and count
+  pub unseen-object : (j : ℕ) → j < c .objects → (s : ObjectState) (m : List ℕ) → Ready t c m
+      → ObjectKept (objectRecord t (c .ipdus) j .depth) (depths t c j) s
+      → (objectRecord t (c .ipdus) j .kind ≡ 1 → s .old ≡ objectState m j .old)
+      → (objectRecord t (c .ipdus) j .kind ≡ 1 → s .occurrence ≡ objectState m j .occurrence) → Unseen m (withObjectState m j s)
+  unseen-object j h s m ready kept old count =
+      record { ready = ready-object t c m ready j h s kept; same = same-object t c m ready j h s kept old count }
 
   -- a delivery to an object that is not sent
   unseen-deliver : (i v : ℕ) → i < c .objects → (objectRecord t (c .ipdus) i .kind ≡ 1 → ⊥) → v < 2 ^ 32 → (m : List ℕ) → Ready t c m
@@ -138,16 +155,32 @@ module _ (t : List ℕ) (c : Counts) where
       (λ j b l r.
       unseen-pick (eqb (objectRecord t (c .ipdus) j .ipdu) k) l (withObjectState l j (marked mark (objectState l j))) r
       (λ e.
-      let kept = kept-marked (objectRecord t (c .ipdus) j .depth) (depths t c j) mark (objectState l j) low (ready-kept t c l r j b) in
-      record {
-        ready = ready-object t c l r j b (marked mark (objectState l j)) kept;
-        same = same-object t c l r j b (marked mark (objectState l j)) kept (λ one. refl) (λ one. refl);
-      }))
+      unseen-object j b (marked mark (objectState l j)) l r
+      (kept-marked (objectRecord t (c .ipdus) j .depth) (depths t c j) mark (objectState l j) low (ready-kept t c l r j b)) (λ one. refl) (λ one. refl)))
 
-  -- the row of an I-PDU
-  pub unseen-ipdu : (k : ℕ) → k < c .ipdus → (s : Rattle.state.specs.declared.IpduState.IpduState) → (m : List ℕ) → Ready t c m
-      → Ready t c (withIpduState m k s) → Unseen m (withIpduState m k s)
+  -- the row of an I-PDU, sent or received
+  pub unseen-ipdu : (k : ℕ) → k < c .ipdus → (s : IpduState) → (m : List ℕ) → Ready t c m → Ready t c (withIpduState m k s)
+      → Unseen m (withIpduState m k s)
   unseen-ipdu k h s m ready next = record { ready = next; same = same-ipdu t c m ready k h s }
+
+  pub unseen-send : (k : ℕ) → k < c .ipdus → ipdu t k .direction ≡ Send → (s : IpduState) (m : List ℕ) → Ready t c m → SendKept (ipdu t k) s
+      → Unseen m (withIpduState m k s)
+  unseen-send k h d s m ready kept = unseen-ipdu k h s m ready (ready-send t c m ready k h d s kept)
+
+  -- a request that a send wants, made or postponed
+  pub unseen-request : (i : ℕ) → isObject t c 1 i ≡ true → (area m : List ℕ) → Ready t c m → Unseen m (request t (object t c i) area m .memory)
+  unfolding request objectOf
+  unseen-request i is area m ready =
+      picked (λ (o : Outcome). Unseen m (o .memory)) (wants t (object t c i)) _ _
+      (λ w.
+      let here = usable t c (ready .right) i (object-there t c 1 i is) .ipdu (wants-some t (object t c i) w) in
+      let d = ipdu-sends t (objectRecord t (c .ipdus) i .ipdu) (here .1 ∙ object-kind t c 1 i is) in
+      unseen-send (objectRecord t (c .ipdus) i .ipdu) (here .0) d
+      (offered (ipdu t (objectRecord t (c .ipdus) i .ipdu)) (withWanted 1 (ipduState m (objectRecord t (c .ipdus) i .ipdu)))) m ready
+      (kept-offered (ipdu t (objectRecord t (c .ipdus) i .ipdu)) (withWanted 1 (ipduState m (objectRecord t (c .ipdus) i .ipdu)))
+      (kept-wanted (ipdu t (objectRecord t (c .ipdus) i .ipdu)) (ipduState m (objectRecord t (c .ipdus) i .ipdu))
+      (ready-send-kept t c m ready (objectRecord t (c .ipdus) i .ipdu) (here .0) d))))
+      (λ w. unseen-refl m ready)
 
   -- periods
   pub unseen-periods : (on : Bool) (m : List ℕ) → Ready t c m → Unseen m (setPeriods on t c m)

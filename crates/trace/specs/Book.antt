@@ -12,7 +12,7 @@ use Rattle.table.specs.declared.Counts.{Counts}
 use Rattle.table.specs.declared.ObjectRecord.{ObjectRecord}
 use Rattle.table.specs.Records.{objectRecord}
 use Rattle.table.specs.Rules.{orderOf}
-use Rattle.layer.specs.Step.{Call, start, stop, send, initialise, receive, status, marks, clearMarks, startPeriodic, stopPeriodic, indication, confirm, areaSize}
+use Rattle.layer.specs.Step.{Call, start, stop, send, initialise, receive, status, marks, clearMarks, startPeriodic, stopPeriodic, indication, confirm, tick, areaSize}
 
 -- an entry: a send object and a value that it kept
 pub record Entry : Type 0 where
@@ -24,6 +24,10 @@ pub record Book : Type 0 where
   pub entries : List Entry
   pub counts : ℕ → ℕ
   pub stopped : Bool
+
+-- the book of a layer that was never started
+abbrev pub unopened : Book
+unopened = record { entries = []; counts = λ i. 0; stopped = true }
 
 abbrev pub enter : ℕ → ℕ → List Entry → List Entry
 enter i v es = record { object = i; value = v } ∷ es
@@ -64,22 +68,54 @@ sent t c b i v =
       stopped = b .stopped;
     }
 
--- ---- a call; a refused one leaves the book alone
+-- initialise of a send object: an entry; the count stays
+abbrev pub initialised : List ℕ → Counts → Book → ℕ → ℕ → Book
+initialised t c b i v =
+    pick (sends t c i) (record { entries = enter i v (b .entries); counts = b .counts; stopped = b .stopped }) b
 
+-- ---- a call
+
+-- what the book is fed of a call; of a request area it sees the length. Other calls: nothing
+pub data Fed : Type 0 where
+  fedStart : Fed
+  fedStop : Fed
+  fedSend : (i value areaLength : ℕ) → Fed
+  fedInitialise : (i value : ℕ) → Fed
+  fedOther : Fed
+
+abbrev pub fed : Call → Fed
+fed start = fedStart
+fed stop = fedStop
+fed (send i value area) = fedSend i value (length area)
+fed (initialise i value) = fedInitialise i value
+fed (receive i) = fedOther
+fed (status i) = fedOther
+fed (marks i) = fedOther
+fed (clearMarks i) = fedOther
+fed startPeriodic = fedOther
+fed stopPeriodic = fedOther
+fed (indication k good bytes) = fedOther
+fed (confirm k good) = fedOther
+fed (tick area) = fedOther
+
+-- whether a start, stop, send or initialise goes on, from the table, those arguments and stopped
+abbrev pub accepts : List ℕ → Counts → Book → Fed → Bool
+accepts t c b fedStart = true
+accepts t c b fedStop = not (b .stopped)
+accepts t c b (fedSend i v n) = leb areaSize n && not (b .stopped) && sends t c i
+accepts t c b (fedInitialise i v) = not (b .stopped) && ltb i (c .objects)
+accepts t c b fedOther = true
+
+abbrev pub entered : List ℕ → Counts → Book → Fed → Book
+entered t c b fedStart = opened t c
+entered t c b fedStop = record { entries = b .entries; counts = b .counts; stopped = true }
+entered t c b (fedSend i v n) = sent t c b i v
+entered t c b (fedInitialise i v) = initialised t c b i v
+entered t c b fedOther = b
+
+-- a refused call leaves the book alone
 unfoldable pub advance : List ℕ → Counts → Book → Call → Book
-advance t c b start = opened t c
-advance t c b stop = record { entries = b .entries; counts = b .counts; stopped = true }
-advance t c b (send i v area) = pick (leb areaSize (length area) && not (b .stopped) && sends t c i) (sent t c b i v) b
-advance t c b (initialise i v) =
-    pick (not (b .stopped) && sends t c i) (record { entries = enter i v (b .entries); counts = b .counts; stopped = b .stopped }) b
-advance t c b (receive i) = b
-advance t c b (status i) = b
-advance t c b (marks i) = b
-advance t c b (clearMarks i) = b
-advance t c b startPeriodic = b
-advance t c b stopPeriodic = b
-advance t c b (indication k good bytes) = b
-advance t c b (confirm k good) = b
+advance t c b call = pick (accepts t c b (fed call)) (entered t c b (fed call)) b
 
 -- ---- frames
 

@@ -1,2 +1,3 @@
 pub mod Cases
 pub mod Book
+pub mod Demand3

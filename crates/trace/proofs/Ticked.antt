@@ -1,0 +1,160 @@
+-- Tick: the book of demand 3 does not see it, and each I-PDU that its word names was handed over as it stands in working memory.
+-- Assumes nothing.
+use mathlib.Core.Bool.{Bool, true, false}
+use mathlib.Core.List.{List, []}
+use mathlib.Core.Logic.{_⊎_, inl, inr, ⊎-elim}
+use mathlib.Core.Path.{_≡_, refl, sym, ap, subst, _∙_}
+use Prim.Native.Nat.{ℕ, zero, suc, _+_, _*_, _^_, _≤_, _<_}
+use native.Mathlib.Omega.{arith}
+use lib.ListN.{length}
+use Rattle.memory.specs.Bytes.{part}
+use Rattle.memory.specs.Search.{pick, fold}
+use Rattle.memory.proofs.Search.{picked}
+use Rattle.bits.specs.Bits.{bit}
+use Rattle.bits.proofs.Numbers.{bit-of-zero, bit-added}
+use Rattle.table.specs.declared.Counts.{Counts}
+use Rattle.table.specs.declared.Direction.{Direction}
+use Rattle.table.specs.declared.Direction.the-variants.{Send, Receive}
+use Rattle.table.specs.Records.{ipduRecord}
+use Rattle.state.specs.declared.IpduState.{IpduState}
+use Rattle.state.specs.Layout.{slotAt, ipduState, withIpduState}
+use Rattle.state.specs.Ranges.{Ready}
+use Rattle.message.specs.Delivery.{markObjects}
+use Rattle.transmission.specs.Requests.{ipdu, goes, offered, handed}
+use Rattle.transmission.specs.Ticks.{delayed, expires, aged, counted, late, watched}
+use Rattle.transmission.proofs.Kept.{kept-offered, ready-send-kept, ready-receive, ready-receive-kept}
+use Rattle.transmission.proofs.Ticked.{kept-delayed, kept-aged, kept-counted, kept-watched}
+use Rattle.layer.specs.Answers.{Outcome, valueOf}
+use Rattle.layer.specs.Tick.{Ticked, ticked, tickAs, tickIpdu, tickTurn, ticks, tickIn}
+use Rattle.layer.specs.Step.{areaSize}
+use Rattle.layer.proofs.Laws.{sends-one}
+use Rattle.layer.proofs.Ticks.{tick-word, word-more}
+use Rattle.trace.specs.Demand3.{names}
+use Rattle.trace.proofs.Agree.{Same}
+use Rattle.trace.proofs.Unseen.{Unseen, unseen-refl, unseen-then, unseen-mark, unseen-ipdu, unseen-send}
+use Rattle.trace.proofs.Hands.{Hands, hands-none, hands-same, Offer, quiet, offer-cases, offer-from, Next, hands-more}
+
+module _ (t : List ℕ) (c : Counts) where
+  -- ---- one I-PDU
+
+  -- marks on its objects, where a time has run out
+  unseen-due : (due : Bool) (k mark : ℕ) → mark ≤ 15 → (m : List ℕ) → Ready t c m → Unseen t c m (pick due (markObjects t c k mark m) m)
+  unseen-due due k mark few m ready =
+      picked (Unseen t c m) due (markObjects t c k mark m) m (λ e. unseen-mark t c k mark few m ready) (λ e. unseen-refl t c m ready)
+
+  -- what one I-PDU's tick does: nothing that the book sees, and perhaps a request
+  record Turn (k : ℕ) (area m : List ℕ) (o : Outcome) : Type 0 where
+    unseen : Unseen t c m (o .memory)
+    offer : Offer t c k area m o
+
+  turn-as : (k : ℕ) → k < c .ipdus → (area m : List ℕ) → Ready t c m → (d : Direction) → ipdu t k .direction ≡ d → Turn k area m (tickAs d t c k area m)
+  turn-as k h area m ready Send e =
+      let u = unseen-due (expires (delayed (ipduState m k))) k 8 (omega arith) m ready in
+      record {
+        unseen =
+            unseen-then t c m (pick (expires (delayed (ipduState m k))) (markObjects t c k 8 m) m) _ u
+            (unseen-send t c k h e (offered (ipdu t k) (counted (ipdu t k) (aged (delayed (ipduState m k))))) (pick (expires (delayed (ipduState m k))) (markObjects t c k 8 m) m) (u .ready)
+            (kept-offered (ipdu t k) (counted (ipdu t k) (aged (delayed (ipduState m k))))
+            (kept-counted (ipdu t k) (aged (delayed (ipduState m k)))
+            (kept-aged (ipdu t k) (delayed (ipduState m k)) (kept-delayed (ipdu t k) (ipduState m k) (ready-send-kept t c m ready k h e))))));
+        offer =
+            offer-cases t c (ready .right) k h (sends-one t k e) (counted (ipdu t k) (aged (delayed (ipduState m k)))) area
+            (pick (expires (delayed (ipduState m k))) (markObjects t c k 8 m) m) m (u .same .slot k h (sends-one t k e));
+      }
+  turn-as k h area m ready Receive e =
+      let u = unseen-due (late (ipduState m k)) k 4 (omega arith) m ready in
+      record {
+        unseen =
+            unseen-then t c m (pick (late (ipduState m k)) (markObjects t c k 4 m) m) _ u
+            (unseen-ipdu t c k h (watched (ipdu t k) (ipduState m k)) (pick (late (ipduState m k)) (markObjects t c k 4 m) m) (u .ready)
+            (ready-receive t c (pick (late (ipduState m k)) (markObjects t c k 4 m) m) (u .ready) k h e (watched (ipdu t k) (ipduState m k))
+            (kept-watched (ipdu t k) (ipduState m k) (ready-receive-kept t c m ready k h e))));
+        offer = quiet refl refl;
+      }
+
+  turn : (k : ℕ) → k < c .ipdus → (area m : List ℕ) → Ready t c m → Turn k area m (tickIpdu t c k area m)
+  unfolding tickIpdu
+  turn k h area m ready = turn-as k h area m ready (ipdu t k .direction) refl
+
+  -- ---- the I-PDUs so far
+
+  module _ (area m : List ℕ) (ready : Ready t c m) (fits : areaSize ≤ length area) where
+    record Turned (n : ℕ) (a : Ticked) : Type 0 where
+      unseen : Unseen t c m (a .memory)
+      low : a .word < 2 ^ n
+      long : areaSize ≤ length (a .area)
+      below : (k : ℕ) → names (a .word) k → k < n
+      hands : Hands t c (a .word) (a .area) m
+
+    turned-next : (n : ℕ) → n < c .ipdus → (a : Ticked) → Turned n a → Turned (suc n) (tickTurn t c n a)
+    turned-next n h a x =
+        let y = turn n h (a .area) (a .memory) (x .unseen .ready) in
+        let z =
+        hands-more t c (ready .right) n (a .word) h (a .area) m (x .long) (ready .long) (x .low) (x .below) (x .hands) (tickIpdu t c n (a .area) (a .memory))
+        (offer-from t c (ready .right) n h (a .area) (a .memory) m (tickIpdu t c n (a .area) (a .memory)) (x .unseen .same .slot n h) (y .offer)) in
+        record {
+          unseen = unseen-then t c m (a .memory) (tickIpdu t c n (a .area) (a .memory) .memory) (x .unseen) (y .unseen);
+          low =
+              subst (λ (j : ℕ). a .word + valueOf (tickIpdu t c n (a .area) (a .memory) .answer) < 2 ^ j) next
+              (word-more n (a .word) (valueOf (tickIpdu t c n (a .area) (a .memory) .answer)) (x .low) (tick-word t c n (a .area) (a .memory)));
+          long = z .long;
+          below = z .below;
+          hands = z .hands;
+        }
+      where
+        next : n + 1 ≡ suc n
+        next = omega arith
+
+    turned : (n : ℕ) → n ≤ c .ipdus → Turned n (ticks t c n area m)
+    turned zero h =
+        record {
+          unseen = unseen-refl t c m ready;
+          low = omega arith;
+          long = fits;
+          below = λ k e. absurd (hands-none k e);
+          hands = record { named = λ k e. absurd (hands-none k e); slot = λ k e. absurd (hands-none k e) };
+        }
+    turned (suc n) h = turned-next n h (ticks t c n area m) (turned n (omega (arith, h)))
+
+    pub unseen-tick : Unseen t c m (tickIn t c area m .memory)
+    unfolding tickIn
+    unseen-tick = turned (c .ipdus) (omega arith) .unseen
+
+    pub tick-hands : Hands t c (valueOf (tickIn t c area m .answer)) (tickIn t c area m .area) (tickIn t c area m .memory)
+    unfolding tickIn
+    tick-hands =
+        let x = turned (c .ipdus) (omega arith) in
+        hands-same t c _ _ m _ (ready .right) (x .hands) (x .unseen .same .slot)
+
+  -- ---- what a tick answers and leaves in working memory does not depend on what the area held
+
+  as-area : (d : Direction) (k : ℕ) (area other m : List ℕ) → (tickAs d t c k area m .answer ≡ tickAs d t c k other m .answer)
+      × (tickAs d t c k area m .memory ≡ tickAs d t c k other m .memory)
+  as-area Send k area other m = (refl, refl)
+  as-area Receive k area other m = (refl, refl)
+
+  ipdu-area : (k : ℕ) (area other m : List ℕ) → (tickIpdu t c k area m .answer ≡ tickIpdu t c k other m .answer)
+      × (tickIpdu t c k area m .memory ≡ tickIpdu t c k other m .memory)
+  unfolding tickIpdu
+  ipdu-area k area other m = as-area (ipdu t k .direction) k area other m
+
+  module _ (area other m : List ℕ) where
+    turns-area : (n : ℕ) → (ticks t c n area m .word ≡ ticks t c n other m .word) × (ticks t c n area m .memory ≡ ticks t c n other m .memory)
+    turns-area zero = (refl, refl)
+    turns-area (suc n) =
+        let e = turns-area n in
+        let x : Ticked = ticks t c n area m in
+        let y : Ticked = ticks t c n other m in
+        let same = ipdu-area n (ticks t c n area m .area) (ticks t c n other m .area) (ticks t c n area m .memory) in
+        let o : List ℕ → Outcome = tickIpdu t c n (ticks t c n other m .area) in
+        (
+          sum (e .0) (ap (λ (a : Rattle.layer.specs.declared.Answer.Answer). valueOf a) (same .0) ∙ ap (λ (l : List ℕ). valueOf (tickIpdu t c n (ticks t c n other m .area) l .answer)) (e .1)),
+          same .1 ∙ ap (λ (l : List ℕ). tickIpdu t c n (ticks t c n other m .area) l .memory) (e .1),
+        )
+      where
+        sum : {a b x y : ℕ} → a ≡ b → x ≡ y → a + x ≡ b + y
+        sum p q = rw (p, q)
+
+    pub tick-area : (tickIn t c area m .answer ≡ tickIn t c other m .answer) × (tickIn t c area m .memory ≡ tickIn t c other m .memory)
+    unfolding tickIn
+    tick-area = let e = turns-area (c .ipdus) in (ap Rattle.layer.specs.declared.Answer.the-variants.Done (e .0), e .1)
