@@ -167,7 +167,7 @@ module _ (t : List ℕ) (c : Counts) (b : Book) (m : List ℕ) (a : Agrees t c b
       (ready-kept t c first (first-agrees .ready) i low)
 
   -- the layer's filter judges as the book does
-  judge-is : judge t c m (a .ready) i is v small area ≡ keeps t c b i v
+  pub judge-is : judge t c m (a .ready) i is v small area ≡ keeps t c b i v
   unfolding objectOf
   judge-is = ap₂ (λ (old n : ℕ). passes (object t c i .filter) v old n) (first-agrees .old i low one) (first-agrees .count i low one)
 

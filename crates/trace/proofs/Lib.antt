@@ -9,6 +9,10 @@ pub mod Unseen
 pub mod Kept
 pub mod Others
 pub mod Hands
+pub mod Sending
 pub mod Ticked
 pub mod Opening
 pub mod Lists
+pub mod Calls
+pub mod Pairs
+pub mod Demand3

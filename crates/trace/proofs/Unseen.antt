@@ -19,7 +19,7 @@ use Rattle.table.specs.declared.ObjectRecord.{ObjectRecord}
 use Rattle.table.specs.Records.{none, ipduRecord, objectRecord}
 use Rattle.table.specs.Rules.{references, sendObject, receiveObject}
 use Rattle.table.specs.Check.{depths}
-use Rattle.table.specs.Decode.{objectOf}
+use Rattle.table.specs.Decode.{objectOf, Right}
 use Rattle.table.proofs.Accepted.{Usable, usable}
 use Rattle.table.proofs.Facts.{ObjectFacts, object-facts}
 use Rattle.table.specs.declared.Direction.the-variants.{Send, Receive}
@@ -40,25 +40,38 @@ use Rattle.layer.specs.Calls.{isObject, wants, request}
 use Rattle.layer.proofs.Laws.{object-there, object-kind, ipdu-sends, wants-some}
 use Rattle.trace.proofs.Agree.{Same, same-refl, same-trans, same-object, same-ipdu, same-queue}
 
--- ---- a send object has no sending object
+-- ---- a send object has no sending object, and an object that has one is received
 
-pub send-no-sender : (t : List ℕ) (c : Counts) (m : List ℕ) → Ready t c m → (i : ℕ) → i < c .objects → objectRecord t (c .ipdus) i .kind ≡ 1
-    → objectRecord t (c .ipdus) i .sender ≡ 255
-send-no-sender t c m ready i h one =
-    ⊎-elim
-    (λ (e : sendObject (objectRecord t (c .ipdus) i) ≡ true).
-    eqb-true (objectRecord t (c .ipdus) i .sender) 255
-    (and-split (eqb (objectRecord t (c .ipdus) i .kind) 1) (eqb (objectRecord t (c .ipdus) i .sender) none)
-    (and-split (eqb (objectRecord t (c .ipdus) i .kind) 1 && eqb (objectRecord t (c .ipdus) i .sender) none) (eqb (objectRecord t (c .ipdus) i .depth) 0) e .0) .1))
-    (λ (e : receiveObject (objectRecord t (c .ipdus) i) ≡ true).
-    let two : objectRecord t (c .ipdus) i .kind ≡ 2 =
-    eqb-true (objectRecord t (c .ipdus) i .kind) 2
-    (and-split (eqb (objectRecord t (c .ipdus) i .kind) 2) (eqb (objectRecord t (c .ipdus) i .transfer) 0)
-    (and-split (eqb (objectRecord t (c .ipdus) i .kind) 2 && eqb (objectRecord t (c .ipdus) i .transfer) 0)
-    (eqb (objectRecord t (c .ipdus) i .ipdu) none || eqb (objectRecord t (c .ipdus) i .sender) none) e .0) .0) in
-    absurd (omega (arith, one, two)))
-    (or-cases (sendObject (objectRecord t (c .ipdus) i)) (receiveObject (objectRecord t (c .ipdus) i))
-    (object-facts (objectRecord t (c .ipdus) i) (references t c (objectRecord t (c .ipdus) i)) (ready .right .objects i h) .kinds))
+send-sender : (r : ObjectRecord) → sendObject r ≡ true → r .sender ≡ 255
+send-sender r e =
+    eqb-true (r .sender) 255
+    (and-split (eqb (r .kind) 1) (eqb (r .sender) none) (and-split (eqb (r .kind) 1 && eqb (r .sender) none) (eqb (r .depth) 0) e .0) .1)
+
+receive-kind : (r : ObjectRecord) → receiveObject r ≡ true → r .kind ≡ 2
+receive-kind r e =
+    eqb-true (r .kind) 2
+    (and-split (eqb (r .kind) 2) (eqb (r .transfer) 0)
+    (and-split (eqb (r .kind) 2 && eqb (r .transfer) 0) (eqb (r .ipdu) none || eqb (r .sender) none) e .0) .0)
+
+module _ (t : List ℕ) (c : Counts) (right : Right t c) (i : ℕ) (h : i < c .objects) where
+  kinds : (sendObject (objectRecord t (c .ipdus) i) ≡ true) ⊎ (receiveObject (objectRecord t (c .ipdus) i) ≡ true)
+  kinds =
+      or-cases (sendObject (objectRecord t (c .ipdus) i)) (receiveObject (objectRecord t (c .ipdus) i))
+      (object-facts (objectRecord t (c .ipdus) i) (references t c (objectRecord t (c .ipdus) i)) (right .objects i h) .kinds)
+
+  pub send-no-sender : objectRecord t (c .ipdus) i .kind ≡ 1 → objectRecord t (c .ipdus) i .sender ≡ 255
+  send-no-sender one =
+      ⊎-elim
+      (λ (e : sendObject (objectRecord t (c .ipdus) i) ≡ true). send-sender (objectRecord t (c .ipdus) i) e)
+      (λ (e : receiveObject (objectRecord t (c .ipdus) i) ≡ true). absurd (omega (arith, one, receive-kind (objectRecord t (c .ipdus) i) e)))
+      kinds
+
+  pub sender-received : objectRecord t (c .ipdus) i .sender < 255 → objectRecord t (c .ipdus) i .kind ≡ 2
+  sender-received low =
+      ⊎-elim
+      (λ (e : sendObject (objectRecord t (c .ipdus) i) ≡ true). absurd (omega (arith, low, send-sender (objectRecord t (c .ipdus) i) e)))
+      (λ (e : receiveObject (objectRecord t (c .ipdus) i) ≡ true). receive-kind (objectRecord t (c .ipdus) i) e)
+      kinds
 
 module _ (t : List ℕ) (c : Counts) where
   -- a memory in range that the book cannot tell from m
@@ -128,7 +141,7 @@ module _ (t : List ℕ) (c : Counts) where
       unseen-pick (eqb (objectRecord t (c .ipdus) j .sender) i) l (deliver (object t c j) j v l) r
       (λ e.
       unseen-deliver j v b
-      (λ one. omega (arith, send-no-sender t c l r j b one, eqb-true (objectRecord t (c .ipdus) j .sender) i e, h, r .right .shape .objects)) small l r))
+      (λ one. omega (arith, send-no-sender t c (r .right) j b one, eqb-true (objectRecord t (c .ipdus) j .sender) i e, h, r .right .shape .objects)) small l r))
 
   -- delivery of a frame of a receive I-PDU
   pub unseen-frame : (k : ℕ) → k < c .ipdus → ipduRecord t k .direction ≡ 2 → (m : List ℕ) → Ready t c m → Unseen m (deliverFrame t c k m)

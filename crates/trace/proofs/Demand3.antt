@@ -1,0 +1,42 @@
+-- Demand 3: the claim holds of every table.
+-- Assumes: the table holds bytes, and arguments are of the types that the calls take (`Typed`).
+use mathlib.Core.Bool.{true}
+use mathlib.Core.List.{List, _∷_}
+use mathlib.Core.Path.{_≡_, refl, ap}
+use Prim.Native.Nat.{ℕ}
+use Rattle.memory.specs.Bytes.{Bytes}
+use Rattle.table.specs.declared.Counts.{Counts}
+use Rattle.table.specs.Records.{counts}
+use Rattle.layer.specs.Answers.{numberOf, valueOf}
+use Rattle.layer.specs.Step.{Call, start, step}
+use Rattle.trace.specs.Book.{Book, unopened, opened, advance}
+use Rattle.trace.specs.Demand3.{done, CallKept, AllAlike, SameAnswer, Demand3}
+use Rattle.trace.proofs.Hands.{hands-none}
+use Rattle.trace.proofs.Lists.{start-accepted, start-follows}
+use Rattle.trace.proofs.Calls.{list-kept}
+use Rattle.trace.proofs.Pairs.{start-twin, lists-same}
+
+-- the accepted start that a list begins with
+first-kept : (t m : List ℕ) → done (step t start m) ≡ true → CallKept t (counts t) unopened start (step t start m)
+first-kept t m e = record { judged = e; named = λ k z. absurd (hands-none k z); bits = λ k z. absurd (hands-none k z) }
+
+pub demand-3 : (t : List ℕ) → Bytes t → Demand3 t
+unfolding advance
+demand-3 t bt xs ys p q m n em en =
+    let a = start-accepted t m em in
+    let z = start-accepted t n en in
+    let f = start-follows t (counts t) (a .table) bt m (a .long) in
+    let g = start-follows t (counts t) (a .table) bt n (z .long) in
+    let w = start-twin t (counts t) (a .table) bt m n (a .long) (z .long) in
+    (
+      (first-kept t m em, list-kept t (counts t) (a .table) bt xs p (opened t (counts t)) (step t start m .memory) f),
+      λ alike. (
+        record {
+          number = ap numberOf (w .answer);
+          value = ap valueOf (w .answer);
+          word = refl;
+          frames = λ k e. absurd (hands-none k e);
+        },
+        lists-same t (counts t) (a .table) bt xs ys p q (opened t (counts t)) (step t start m .memory) (step t start n .memory) f g (w .memory) (alike .1),
+      ),
+    )

@@ -1,0 +1,236 @@
+-- Demand 3, two lists: calls alike but for dropped values give the same answers and frames, over memories that are alike in the
+-- first 8,192 bytes, and leave such memories.
+-- Assumes: the table holds bytes, and arguments are of the types that the calls take (`Typed`).
+use mathlib.Core.Bool.{Bool, true, false, not, _&&_}
+use mathlib.Core.List.{List, [], _∷_}
+use mathlib.Core.Logic.{⊎-elim}
+use mathlib.Core.Path.{_≡_, refl, sym, ap, subst, _∙_}
+use Prim.Native.Nat.{ℕ, _^_, _≤_, _<_}
+use borrow.Author.Tests.{le-leb, leb-true}
+use lib.Dec.{leb}
+use lib.ListN.{length}
+use Rattle.memory.specs.Bytes.{Bytes, part}
+use Rattle.memory.specs.Search.{pick}
+use Rattle.memory.proofs.Tests.{true-or-false}
+use Rattle.table.specs.declared.Counts.{Counts}
+use Rattle.table.specs.declared.Verdict.the-variants.{Accepted}
+use Rattle.table.specs.Records.{ipduRecord}
+use Rattle.table.specs.Check.{check}
+use Rattle.table.proofs.Accepted.{accepted-right}
+use Rattle.state.specs.Layout.{memorySize, slotAt, objectState, withObjectState}
+use Rattle.state.specs.Updates.{counted}
+use Rattle.layer.specs.declared.Admission.the-variants.{Admitted, Refused}
+use Rattle.layer.specs.declared.Answer.{Answer}
+use Rattle.layer.specs.declared.Answer.the-variants.{WrongMemory, Stopped}
+use Rattle.layer.specs.Answers.{Outcome, numberOf, valueOf, front, admission, follow}
+use Rattle.layer.specs.Start.{started, startCall}
+use Rattle.layer.specs.Calls.{isObject, stopIn, sendIn, initialiseIn, receiveIn, statusIn, marksIn, clearMarksIn, periodicIn, indicationIn, confirmIn}
+use Rattle.layer.specs.Tick.{tickIn}
+use Rattle.layer.specs.Step.{Call, start, stop, send, initialise, receive, status, marks, clearMarks, startPeriodic, stopPeriodic, indication, confirm, tick, areaSize, step}
+use Rattle.trace.specs.Book.{Book, sent, keeps, sends, accepts, advance}
+use Rattle.trace.specs.Demand3.{Typed, AllTyped, wordOf, frame, names, inside, Alike, same, areas, ticks, dropped, AllAlike, SameAnswer, AllSame}
+use Rattle.trace.proofs.Agree.{Agrees}
+use Rattle.trace.proofs.Unseen.{Unseen}
+use Rattle.trace.proofs.Kept.{agrees-send}
+use Rattle.trace.proofs.Others.{agrees-initialise, agrees-stop, unseen-receive, unseen-status, unseen-marks, unseen-clear, unseen-periodic, unseen-indication, unseen-confirm}
+use Rattle.trace.proofs.Hands.{Hands}
+use Rattle.trace.proofs.Sending.{send-area, send-dropped}
+use Rattle.trace.proofs.Ticked.{unseen-tick, tick-area}
+use Rattle.trace.proofs.Begin.{start-ready}
+use Rattle.trace.proofs.Lists.{front-of, Follows, admission-is, step-follows}
+use Rattle.trace.proofs.Calls.{step-hands}
+
+-- the same answer, and memories alike in the first 8,192 bytes
+pub record Twin (o p : Outcome) : Type 0 where
+  pub answer : o .answer ≡ p .answer
+  pub memory : front (o .memory) ≡ front (p .memory)
+
+module _ (t : List ℕ) (c : Counts) (accepted : check t ≡ Accepted c) (bt : Bytes t) where
+  -- a start leaves the same, whatever lay in memory before
+  pub start-twin : (m n : List ℕ) → memorySize ≤ length m → memorySize ≤ length n → Twin (step t start m) (step t start n)
+  unfolding step startCall
+  start-twin m n long far =
+      let size = start-ready t c (accepted-right t c accepted) bt .long in
+      rw (accepted, le-leb memorySize (length m) long, le-leb memorySize (length n) far)
+      (record { answer = refl; memory = front-of (started t c) m size ∙ sym (front-of (started t c) n size) })
+
+  module _ (b : Book) (m n : List ℕ) (f : Follows t c b m) (g : Follows t c b n) (alike : front m ≡ front n) where
+    -- what two calls that go on give
+    record Inner (o p : Outcome) : Type 0 where
+      answer : o .answer ≡ p .answer
+      memory : o .memory ≡ p .memory
+      size : length (o .memory) ≡ memorySize
+
+    follow-twin : (fits : Bool) (area other : List ℕ) (x y : Counts → List ℕ → Outcome) → (fits ≡ true → Inner (x c (front m)) (y c (front n)))
+        → Twin (follow (admission t m fits) m area x) (follow (admission t n fits) n other y)
+    follow-twin fits area other x y i =
+        rw (admission-is t c accepted bt b m f fits, admission-is t c accepted bt b n g fits) (cases fits (b .stopped) i)
+      where
+        cases : (z s : Bool) → (z ≡ true → Inner (x c (front m)) (y c (front n)))
+            → Twin (follow (pick z (pick s (Refused Stopped) (Admitted c)) (Refused WrongMemory)) m area x)
+            (follow (pick z (pick s (Refused Stopped) (Admitted c)) (Refused WrongMemory)) n other y)
+        cases false s j = record { answer = refl; memory = alike }
+        cases true true j = record { answer = refl; memory = alike }
+        cases true false j =
+            let k = j refl in
+            record {
+              answer = k .answer;
+              memory =
+                  front-of (x c (front m) .memory) m (k .size)
+                  ∙ k .memory
+                  ∙ sym (front-of (y c (front n) .memory) n (ap length (sym (k .memory)) ∙ k .size));
+            }
+
+    -- ---- equal calls
+
+    inner : (x : Counts → List ℕ → Outcome) → length (x c (front m) .memory) ≡ memorySize → Inner (x c (front m)) (x c (front n))
+    inner x size =
+        record {
+          answer = ap (λ (l : List ℕ). x c l .answer) alike;
+          memory = ap (λ (l : List ℕ). x c l .memory) alike;
+          size = size;
+        }
+
+    one : (x : Counts → List ℕ → Outcome) → length (x c (front m) .memory) ≡ memorySize → Twin (follow (admission t m true) m [] x) (follow (admission t n true) n [] x)
+    one x size = follow-twin true [] [] x x (λ e. inner x size)
+
+    same-twin : (call : Call) → Typed call → Twin (step t call m) (step t call n)
+    unfolding step
+    same-twin start y = start-twin m n (f .long) (g .long)
+    same-twin stop y = one (λ d. stopIn) (agrees-stop t c b (front m) (f .agrees) .ready .long)
+    same-twin (send i v area) y =
+        follow-twin (leb areaSize (length area)) area area (λ d. sendIn t d i v area) (λ d. sendIn t d i v area)
+        (λ e. inner (λ d. sendIn t d i v area) (agrees-send t c b (front m) (f .agrees) i v y area .ready .long))
+    same-twin (initialise i v) y = one (λ d. initialiseIn t d i v) (agrees-initialise t c b (front m) (f .agrees) i v y .ready .long)
+    same-twin (receive i) y = one (λ d. receiveIn t d i) (unseen-receive t c (front m) (f .agrees .ready) i .ready .long)
+    same-twin (status i) y = one (λ d. statusIn t d i) (unseen-status t c (front m) (f .agrees .ready) i .ready .long)
+    same-twin (marks i) y = one (λ d. marksIn d i) (unseen-marks t c (front m) (f .agrees .ready) i .ready .long)
+    same-twin (clearMarks i) y = one (λ d. clearMarksIn d i) (unseen-clear t c (front m) (f .agrees .ready) i .ready .long)
+    same-twin startPeriodic y = one (λ d. periodicIn true t d) (unseen-periodic t c (front m) (f .agrees .ready) true .ready .long)
+    same-twin stopPeriodic y = one (λ d. periodicIn false t d) (unseen-periodic t c (front m) (f .agrees .ready) false .ready .long)
+    same-twin (indication k good h) y = one (λ d. indicationIn t d k good h) (unseen-indication t c (front m) (f .agrees .ready) k good h y .ready .long)
+    same-twin (confirm k good) y = one (λ d. confirmIn t d k good) (unseen-confirm t c (front m) (f .agrees .ready) k good .ready .long)
+    same-twin (tick area) y =
+        follow-twin (leb areaSize (length area)) area area (λ d. tickIn t d area) (λ d. tickIn t d area)
+        (λ e. inner (λ d. tickIn t d area) (unseen-tick t c area (front m) (f .agrees .ready) (leb-true areaSize (length area) e) .ready .long))
+
+    -- ---- another area
+
+    areas-twin : (i v : ℕ) → v < 2 ^ 32 → (area other : List ℕ) → length area ≡ length other → Twin (step t (send i v area) m) (step t (send i v other) n)
+    unfolding step
+    areas-twin i v small area other e =
+        rw (sym e)
+        (follow-twin (leb areaSize (length area)) area other (λ d. sendIn t d i v area) (λ d. sendIn t d i v other)
+        (λ z.
+        let x = send-area t c i v area other (front m) in
+        record {
+          answer = x .0 ∙ ap (λ (l : List ℕ). sendIn t c i v other l .answer) alike;
+          memory = x .1 ∙ ap (λ (l : List ℕ). sendIn t c i v other l .memory) alike;
+          size = agrees-send t c b (front m) (f .agrees) i v small area .ready .long;
+        }))
+
+    ticks-twin : (area other : List ℕ) → length area ≡ length other → Twin (step t (tick area) m) (step t (tick other) n)
+    unfolding step
+    ticks-twin area other e =
+        rw (sym e)
+        (follow-twin (leb areaSize (length area)) area other (λ d. tickIn t d area) (λ d. tickIn t d other)
+        (λ z.
+        let x = tick-area t c area other (front m) in
+        record {
+          answer = x .0 ∙ ap (λ (l : List ℕ). tickIn t c other l .answer) alike;
+          memory = x .1 ∙ ap (λ (l : List ℕ). tickIn t c other l .memory) alike;
+          size = unseen-tick t c area (front m) (f .agrees .ready) (leb-true areaSize (length area) z) .ready .long;
+        }))
+
+    -- ---- dropped values
+
+    module _ (i v w : ℕ) (small : v < 2 ^ 32) (little : w < 2 ^ 32) (area other : List ℕ) (dropv : keeps t c b i v ≡ false) (dropw : keeps t c b i w ≡ false)
+        (none : inside t c i ≡ false) where
+      dropped-inner : Inner (sendIn t c i v area (front m)) (sendIn t c i w other (front n))
+      dropped-inner = ⊎-elim there missing (true-or-false (isObject t c 1 i))
+        where
+          size : length (sendIn t c i v area (front m) .memory) ≡ memorySize
+          size = agrees-send t c b (front m) (f .agrees) i v small area .ready .long
+
+          there : isObject t c 1 i ≡ true → Inner (sendIn t c i v area (front m)) (sendIn t c i w other (front n))
+          there is =
+              let x = send-dropped t c b (front m) (f .agrees) i v small area is dropv none in
+              let y = send-dropped t c b (front n) (g .agrees) i w little other is dropw none in
+              record {
+                answer = ap (λ (o : Outcome). o .answer) x ∙ sym (ap (λ (o : Outcome). o .answer) y);
+                memory =
+                    ap (λ (o : Outcome). o .memory) x
+                    ∙ ap (λ (l : List ℕ). withObjectState l i (counted (objectState l i))) alike
+                    ∙ sym (ap (λ (o : Outcome). o .memory) y);
+                size = size;
+              }
+
+          missing : isObject t c 1 i ≡ false → Inner (sendIn t c i v area (front m)) (sendIn t c i w other (front n))
+          missing out = record { answer = unfold sendIn in rw out; memory = unfold sendIn in rw out alike; size = size }
+
+      dropped-twin : length area ≡ length other → Twin (step t (send i v area) m) (step t (send i w other) n)
+      unfolding step
+      dropped-twin e =
+          rw (sym e) (follow-twin (leb areaSize (length area)) area other (λ d. sendIn t d i v area) (λ d. sendIn t d i w other) (λ z. dropped-inner))
+
+      -- the two books enter nothing, and count alike
+      dropped-book : length area ≡ length other → advance t c b (send i v area) ≡ advance t c b (send i w other)
+      unfolding advance
+      dropped-book e = rw (sym e, dropv, dropw)
+
+    -- ---- calls alike
+
+    record Step (x y : Call) : Type 0 where
+      twin : Twin (step t x m) (step t y n)
+      word : wordOf x (step t x m .answer) ≡ wordOf y (step t y n .answer)
+      book : advance t c b x ≡ advance t c b y
+
+    alike-step : (x y : Call) → Typed x → Typed y → Alike t c b b x y → Step x y
+    alike-step x y p q (same e) =
+        let w = same-twin x p in
+        subst (Step x) e (record { twin = w; word = ap (wordOf x) (w .answer); book = refl })
+    alike-step x y p q (areas i v area other ex ey e) =
+        let small : v < 2 ^ 32 = rw ex at p in
+        let w = areas-twin i v small area other e in
+        rw (ex, ey) (record { twin = w; word = ap valueOf (w .answer); book = area-book i v area other e })
+      where
+        area-book : (i v : ℕ) (area other : List ℕ) → length area ≡ length other → advance t c b (send i v area) ≡ advance t c b (send i v other)
+        area-book i v area other e = unfold advance in rw (sym e)
+    alike-step x y p q (ticks area other ex ey e) =
+        let w = ticks-twin area other e in
+        rw (ex, ey) (record { twin = w; word = ap valueOf (w .answer); book = unfold advance in refl })
+    alike-step x y p q (dropped i v w area other ex ey e dropv dropw none) =
+        let small : v < 2 ^ 32 = rw ex at p in
+        let little : w < 2 ^ 32 = rw ey at q in
+        let z = dropped-twin i v w small little area other dropv dropw none e in
+        rw (ex, ey) (record { twin = z; word = ap valueOf (z .answer); book = dropped-book i v w small little area other dropv dropw none e })
+
+    same-answer : (x y : Call) → Typed x → Typed y → Step x y → SameAnswer t x y (step t x m) (step t y n)
+    same-answer x y p q s =
+        let hx = step-hands t c accepted bt b m f x p in
+        let hy = step-hands t c accepted bt b n g y q in
+        record {
+          number = ap numberOf (s .twin .answer);
+          value = ap valueOf (s .twin .answer);
+          word = s .word;
+          frames = λ k e.
+              hx .slot k e
+              ∙ ap (part (slotAt k) (ipduRecord t k .length)) (s .twin .memory)
+              ∙ sym (hy .slot k (rw (s .word) at e));
+        }
+
+  pub lists-same : (xs ys : List Call) → AllTyped xs → AllTyped ys → (b : Book) (m n : List ℕ) → Follows t c b m → Follows t c b n → front m ≡ front n
+      → AllAlike t c b b xs ys → AllSame t xs ys m n
+  lists-same [] [] p q b m n f g e a = tt
+  lists-same [] (y ∷ ys) p q b m n f g e a = a
+  lists-same (x ∷ xs) [] p q b m n f g e a = a
+  lists-same (x ∷ xs) (y ∷ ys) p q b m n f g e a =
+      let s = alike-step b m n f g e x y (p .0) (q .0) (a .0) in
+      (
+        same-answer b m n f g e x y (p .0) (q .0) s,
+        lists-same xs ys (p .1) (q .1) (advance t c b x) (step t x m .memory) (step t y n .memory)
+        (step-follows t c accepted bt b m f x (p .0))
+        (subst (λ (d : Book). Follows t c d (step t y n .memory)) (sym (s .book)) (step-follows t c accepted bt b n g y (q .0)))
+        (s .twin .memory)
+        (subst (λ (d : Book). AllAlike t c (advance t c b x) d xs ys) (sym (s .book)) (a .1)),
+      )
