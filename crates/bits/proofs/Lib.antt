@@ -4,5 +4,4 @@ pub mod Places
 pub mod Slots
 pub mod Laws
 pub mod Words
-pub mod Cases
 pub mod Masks

@@ -1,4 +1,4 @@
--- Document 01's cases 6 and 8, as one statement over the list of cases, proved by computation from the definitions.
+-- Document 01's cases 1 to 11, as one statement over the list of cases, proved by computation from the definitions.
 -- Assumes nothing.
 use mathlib.Core.List.{List, [], _∷_}
 use mathlib.Core.Path.{_≡_, refl}
@@ -18,17 +18,12 @@ use Rattle.message.specs.Delivery.{deliverInside, deliverFrame, markObjects}
 use Rattle.transmission.specs.Requests.{goes, made, offered, handed, confirmed, periodSet, setPeriods, timerSet}
 use Rattle.layer.specs.Answers.{admission}
 use Rattle.layer.specs.Calls.{stopIn, wants, request, sendOf, sendIn, initialiseIn, receiveIn, statusIn, marksIn, clearMarksIn, periodicIn, indicationIn, confirmIn}
+use Rattle.transmission.specs.Ticks.{delayed, expires, aged, fires, counted, late, watched}
+use Rattle.layer.specs.Tick.{tickIpdu, tickIn}
 use Rattle.layer.specs.Start.{blank, started, startCall}
 use Rattle.layer.specs.Step.{step, run}
-use Rattle.trace.specs.Cases.{Line, Case, calls, expected, answers, case6, case8, cases}
-
-abbrev pub Holds : Case → Type 0
-Holds c = answers (run (c .table) (calls (c .lines)) (replicate 8192 165)) ≡ expected (c .lines)
-
-abbrev pub AllHold : List Case → Type 0
-AllHold [] = Unit {0}
-AllHold (c ∷ cs) = Holds c × AllHold cs
+use Rattle.trace.specs.Cases.{AllHold, cases}
 
 pub cases-hold : AllHold cases
-unfolding value bytesOf part get replaced bit frameBit place room number frame written packed unpacked owns position passes filterOf filterRight counts ipduRecord objectRecord offsetsRight headerRight ipduRight references objectRight shareBit overlapsLower check ipduOf objectOf stoppedAt ipduState withIpduState objectState withObjectState ipduInRange objectInRange inRange marked filtered delivered deliver oldest take pack unpack initialise deliverInside deliverFrame markObjects goes made offered handed confirmed periodSet setPeriods timerSet admission stopIn wants request sendOf sendIn initialiseIn receiveIn statusIn marksIn clearMarksIn periodicIn indicationIn confirmIn blank started startCall step
-cases-hold = (refl, (refl, tt))
+unfolding value bytesOf part get replaced bit frameBit place room number frame written packed unpacked owns position passes filterOf filterRight counts ipduRecord objectRecord offsetsRight headerRight ipduRight references objectRight shareBit overlapsLower check ipduOf objectOf stoppedAt ipduState withIpduState objectState withObjectState ipduInRange objectInRange inRange marked filtered delivered deliver oldest take pack unpack initialise deliverInside deliverFrame markObjects goes made offered handed confirmed periodSet setPeriods timerSet admission stopIn wants request sendOf sendIn initialiseIn receiveIn statusIn marksIn clearMarksIn periodicIn indicationIn confirmIn blank started startCall delayed expires aged fires counted late watched tickIpdu tickIn step
+cases-hold = ((refl, refl), ((refl, refl), ((refl, refl), (refl, (refl, (refl, (refl, (refl, (refl, (refl, (refl, (refl, (refl, tt)))))))))))))
