@@ -16,3 +16,4 @@ pub mod Lists
 pub mod Calls
 pub mod Pairs
 pub mod Demand3
+pub mod Entries
