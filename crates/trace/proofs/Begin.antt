@@ -117,15 +117,18 @@ unused-range depth value old queue a b =
 
 -- ---- zeros
 
-zero-bytes : Bytes blank
+pub zero-at : (n : ℕ) → getD blank n 0 ≡ 0
 unfolding blank
-zero-bytes i =
+zero-at n =
     ⊎-elim
-    (λ (h : i < memorySize). omega (arith, getD-replicate {A = ℕ} memorySize i 0 0 h))
-    (λ (h : memorySize ≤ i).
-    let past : length {A = ℕ} (replicate memorySize 0) ≤ i = omega (arith, length-replicate {A = ℕ} memorySize 0, h) in
-    omega (arith, List·getD-eq-default {A = ℕ} (replicate memorySize 0) 0 past))
-    (lt-or-le i memorySize)
+    (λ (h : n < memorySize). getD-replicate {A = ℕ} memorySize n 0 0 h)
+    (λ (h : memorySize ≤ n).
+    let past : length {A = ℕ} (replicate memorySize 0) ≤ n = omega (arith, length-replicate {A = ℕ} memorySize 0, h) in
+    List·getD-eq-default {A = ℕ} (replicate memorySize 0) 0 past)
+    (lt-or-le n memorySize)
+
+zero-bytes : Bytes blank
+zero-bytes i = omega (arith, zero-at i)
 
 module _ (t : List ℕ) (c : Counts) (right : Right t c) (bt : Bytes t) where
   -- the I-PDUs below n are as a start leaves them

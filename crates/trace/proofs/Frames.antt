@@ -42,7 +42,7 @@ use Rattle.transmission.specs.Requests.{ipdu, goes, offered, handed, timerSet}
 use Rattle.layer.specs.declared.Answer.the-variants.{Done}
 use Rattle.layer.specs.Answers.{Outcome, outcome, valueOf}
 use Rattle.layer.specs.Calls.{isObject, isIpdu, wants, request, sendOf, sendIn, receiveIn, timed, indicationOf}
-use Rattle.layer.proofs.Laws.{object-there, wants-some, ipdu-short, has-ipdu}
+use Rattle.layer.proofs.Laws.{object-there, object-kind, wants-some, ipdu-short, has-ipdu}
 use Rattle.trace.proofs.Rows.{pack-row, pack-holds, Handed, request-hands, request-rows}
 
 -- ---- bits: a frame is the first bytes of the slot that was packed
@@ -239,13 +239,10 @@ inside-whole t c m ready i j v area small sends gets from flat passes =
     (sent-row t c m ready i sends v small area j other ∙ inside-row t c m ready i v j small (object-there t c 2 j gets) from)
     ∙ ap Done (stored-value v (objectState m j) (lets (object t c j) v (objectState m j)) (objectRecord t (c .ipdus) j .depth) passes flat)
   where
-    kind : (k n : ℕ) → isObject t c k n ≡ true → objectRecord t (c .ipdus) n .kind ≡ k
-    kind k n e = eqb-true (objectRecord t (c .ipdus) n .kind) k (and-split (ltb n (c .objects)) (eqb (objectRecord t (c .ipdus) n .kind) k) e .1)
-
     other : j ≡ i → ⊥
     other e =
-        let one : objectRecord t (c .ipdus) i .kind ≡ 1 = kind 1 i sends in
-        let two : objectRecord t (c .ipdus) i .kind ≡ 2 = rw e at (kind 2 j gets) in
+        let one : objectRecord t (c .ipdus) i .kind ≡ 1 = object-kind t c 1 i sends in
+        let two : objectRecord t (c .ipdus) i .kind ≡ 2 = rw e at (object-kind t c 2 j gets) in
         omega (arith, one, two)
 
 -- ---- indication

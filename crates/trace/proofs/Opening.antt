@@ -33,20 +33,10 @@ use Rattle.layer.proofs.Laws.{object-sends, object-receives}
 use Rattle.layer.specs.Start.{blank, idle, firstTimer, startIpdu, unused, startAs, startObject, started}
 use Rattle.trace.specs.Book.{Entry, Book, enter, openEntry, opened, lastOf, bookBit}
 use Rattle.trace.proofs.Rows.{pack-row}
-use Rattle.trace.proofs.Begin.{Begun, begun, Set, set-more, all-set, initial-fits, queue-low, unused-fits, start-ready}
+use Rattle.trace.proofs.Begin.{zero-at, Begun, begun, Set, set-more, all-set, initial-fits, queue-low, unused-fits, start-ready}
 use Rattle.trace.proofs.Agree.{Agrees, pack-bits}
 
 -- ---- zeros
-
-zero-at : (n : ℕ) → getD blank n 0 ≡ 0
-unfolding blank
-zero-at n =
-    ⊎-elim
-    (λ (h : n < memorySize). getD-replicate {A = ℕ} memorySize n 0 0 h)
-    (λ (h : memorySize ≤ n).
-    let past : length {A = ℕ} (replicate memorySize 0) ≤ n = omega (arith, length-replicate {A = ℕ} memorySize 0, h) in
-    List·getD-eq-default {A = ℕ} (replicate memorySize 0) 0 past)
-    (lt-or-le n memorySize)
 
 zero-slot : (at p : ℕ) → p < 64 → frameBit (part at 8 blank) p ≡ 0
 unfolding frameBit part bit
