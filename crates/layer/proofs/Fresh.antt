@@ -1,7 +1,7 @@
 -- What a start writes: 8,192 bytes, whatever was there.
 -- Assumes nothing.
 use mathlib.Core.List.{List}
-use mathlib.Core.Path.{_≡_, refl, sym, ap, _∙_}
+use mathlib.Core.Path.{_≡_, ap, _∙_}
 use Prim.Native.Nat.{ℕ, _+_, _≤_, _<_}
 use native.Mathlib.Omega.{arith}
 use lib.ListN.{length, replicate, length-replicate}
@@ -15,7 +15,7 @@ use Rattle.table.specs.Decode.{Right}
 use Rattle.table.specs.Check.{depths}
 use Rattle.state.specs.Layout.{memorySize, objectRow, withObjectState}
 use Rattle.state.proofs.Laws.{ipdu-length, object-length}
-use Rattle.message.specs.Objects.{object, Placed, pack}
+use Rattle.message.specs.Objects.{object, Placed}
 use Rattle.message.proofs.Kept.{right-placed, pack-length}
 use Rattle.transmission.specs.Requests.{ipdu}
 use Rattle.layer.specs.Start.{blank, idle, firstTimer, startIpdu, unused, startAs, startObject, started}

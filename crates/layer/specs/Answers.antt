@@ -1,6 +1,6 @@
 -- Document 01, "What comes back": the number of an answer, what it returns, and what the call left of the lent bytes.
 -- Assumes nothing.
-use mathlib.Core.Bool.{Bool, true, false, _&&_}
+use mathlib.Core.Bool.{Bool, _&&_}
 use mathlib.Core.List.{List, [], _++_}
 use Prim.Native.Nat.{ℕ}
 use lib.Dec.{leb, eqb}

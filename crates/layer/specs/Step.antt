@@ -5,7 +5,7 @@ use mathlib.Core.List.{List, [], _∷_}
 use Prim.Native.Nat.{ℕ}
 use lib.Dec.{leb}
 use lib.ListN.{length}
-use Rattle.layer.specs.Answers.{Outcome, outcome, admission, follow}
+use Rattle.layer.specs.Answers.{Outcome, admission, follow}
 use Rattle.layer.specs.Start.{startCall}
 use Rattle.layer.specs.Calls.{stopIn, sendIn, initialiseIn, receiveIn, statusIn, marksIn, clearMarksIn, periodicIn, indicationIn, confirmIn}
 use Rattle.layer.specs.Tick.{tickIn}

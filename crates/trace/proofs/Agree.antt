@@ -1,19 +1,19 @@
 -- Working memory agrees with the book of demand 3: old values, counts, stopped, and each bit of each send I-PDU. What a call does
 -- apart from start, stop, send and initialise changes none of these.
 -- Assumes nothing.
-use mathlib.Core.Bool.{Bool, true, false, _&&_}
-use mathlib.Core.List.{List, [], _∷_}
+use mathlib.Core.Bool.{Bool, true, false}
+use mathlib.Core.List.{List}
 use mathlib.Core.Logic.{_⊎_, inl, inr, ⊎-elim}
 use mathlib.Core.Path.{_≡_, refl, sym, ap, ap₂, _∙_}
-use Prim.Native.Nat.{ℕ, suc, _+_, _-_, _*_, _^_, _≤_, _<_}
+use Prim.Native.Nat.{ℕ, _+_, _-_, _*_, _≤_, _<_}
 use native.Mathlib.Omega.{arith}
-use borrow.Author.Tests.{eqb-true, eqb-false, eq-eqb, ne-eqb, ltb-true}
-use lib.Dec.{ltb, eqb}
+use borrow.Author.Tests.{eqb-true, eqb-false, eq-eqb, ne-eqb}
+use lib.Dec.{eqb}
 use lib.ListN.{length}
 use Rattle.memory.specs.Bytes.{value, part, get, replaced}
-use Rattle.memory.specs.Search.{pick, any, least, fold}
-use Rattle.memory.proofs.Laws.{part-apart, part-replaced, part-length}
-use Rattle.memory.proofs.Search.{Found, found, nowhere, there, any-some, any-false, least-at}
+use Rattle.memory.specs.Search.{pick, any}
+use Rattle.memory.proofs.Laws.{part-apart, part-length}
+use Rattle.memory.proofs.Search.{Found, found, nowhere, there, any-some, least-at}
 use Rattle.memory.proofs.Tests.{eq-or-ne, true-or-false, true-not-false, lt-or-le}
 use Rattle.bits.specs.Bits.{bit, frameBit, place, owns, packed}
 use Rattle.bits.proofs.Laws.{Fits, packed-own, packed-other}
@@ -34,9 +34,9 @@ use Rattle.state.proofs.Laws.{ipdu-part, ipdu-keeps-objects, object-part, objec
 use Rattle.state.proofs.Ready.{ObjectKept, kept-fits, object-row, ipdu-row}
 use Rattle.message.specs.Objects.{object, Placed, startBit, pack}
 use Rattle.message.proofs.Kept.{right-placed, pack-room, packed-slot-length}
-use Rattle.trace.specs.Book.{Entry, Book, enter, lastOf, ownsBit, messageBit, bookBit}
-use Rattle.trace.proofs.Rows.{pack-row, pack-holds}
-use Rattle.trace.proofs.Frames.{start-bit, room-there, size-some, low-ipdu}
+use Rattle.trace.specs.Book.{Entry, Book, enter, lastOf, messageBit, bookBit}
+use Rattle.trace.proofs.Rows.{pack-holds}
+use Rattle.trace.proofs.Frames.{start-bit, size-some, low-ipdu}
 
 -- ---- a packed slot, bit by bit
 

@@ -2,19 +2,18 @@
 -- Assumes nothing.
 use mathlib.Core.Bool.{Bool, true, false}
 use mathlib.Core.List.{List}
-use mathlib.Core.Logic.{_⊎_, inl, inr, ⊎-elim}
-use mathlib.Core.Path.{_≡_, refl, sym, ap, _∙_}
-use Prim.Native.Nat.{ℕ, zero, suc, _+_, _-_, _*_, _^_, _≤_, _<_, max}
-use native.Mathlib.Nat.{le-refl, not-suc-le-zero}
+use mathlib.Core.Logic.{_⊎_, inl, ⊎-elim}
+use mathlib.Core.Path.{_≡_, refl, ap, _∙_}
+use Prim.Native.Nat.{ℕ, zero, suc, _+_, _-_, _^_, _≤_, _<_, max}
+use native.Mathlib.Nat.{not-suc-le-zero}
 use native.Mathlib.Omega.{arith}
-use borrow.Author.Tests.{eqb-true}
-use lib.Dec.{leb, eqb}
+use lib.Dec.{eqb}
 use lib.ListN.{length, getD, replicate, length-replicate, getD-replicate, List·getD-eq-default}
-use Rattle.memory.specs.Bytes.{Bytes, value, get, part, replaced}
+use Rattle.memory.specs.Bytes.{Bytes, value, get, part}
 use Rattle.memory.specs.Search.{pick, fold}
-use Rattle.memory.proofs.Laws.{get-one, get-lt, part-apart, replaced-length, replaced-bytes}
+use Rattle.memory.proofs.Laws.{get-one, get-lt, part-apart, replaced-bytes}
 use Rattle.memory.proofs.Search.{below-suc}
-use Rattle.memory.proofs.Tests.{lt-or-le, eq-or-ne, true-or-false}
+use Rattle.memory.proofs.Tests.{lt-or-le, true-or-false}
 use Rattle.bits.specs.Bits.{packed}
 use Rattle.bits.proofs.Laws.{packed-bytes}
 use Rattle.table.specs.declared.Counts.{Counts}
@@ -22,15 +21,15 @@ use Rattle.table.specs.declared.Direction.{Direction}
 use Rattle.table.specs.declared.Direction.the-variants.{Send, Receive}
 use Rattle.table.specs.declared.Ipdu.{Ipdu}
 use Rattle.table.specs.declared.Object.{Object}
-use Rattle.table.specs.Records.{none, ipduRecord, objectRecord}
+use Rattle.table.specs.Records.{none, objectRecord}
 use Rattle.table.specs.Check.{depths}
-use Rattle.table.specs.Decode.{ipduOf, objectOf, Right}
-use Rattle.table.proofs.Accepted.{Usable, usable}
+use Rattle.table.specs.Decode.{objectOf, Right}
+use Rattle.table.proofs.Accepted.{Usable}
 use Rattle.state.specs.declared.IpduState.{IpduState}
 use Rattle.state.specs.declared.ObjectState.{ObjectState}
 use Rattle.state.specs.Layout.{memorySize, stoppedAt, slotAt, ipduRow, ipduState, withIpduState, objectRow, objectState, withObjectState}
 use Rattle.state.specs.Ranges.{ipduInRange, objectInRange, Ready}
-use Rattle.state.proofs.Laws.{IpduFits, ObjectFits, ipdu-length, ipdu-part, ipdu-stored, ipdu-bytes, ipdu-other, ipdu-read, object-length, object-part, object-stored, object-bytes, object-other, object-read, object-keeps-ipdus}
+use Rattle.state.proofs.Laws.{IpduFits, ObjectFits, ipdu-length, ipdu-part, ipdu-stored, ipdu-bytes, ipdu-other, ipdu-read, object-length, object-part, object-stored, object-bytes, object-other, object-keeps-ipdus}
 use Rattle.state.proofs.Ready.{ObjectKept, kept-object}
 use Rattle.state.proofs.Turns.{depth-sum}
 use Rattle.message.specs.Objects.{object, Placed, startBit, pack}

@@ -7,7 +7,7 @@ use mathlib.Core.Path.{_≡_, refl, sym, ap, _∙_}
 use Prim.Native.Nat.{ℕ, _+_, _*_, _≤_, _<_}
 use native.Mathlib.Omega.{arith}
 use borrow.Author.Tests.{le-leb, leb-true}
-use lib.Dec.{leb, ltb, eqb}
+use lib.Dec.{leb, ltb}
 use lib.ListN.{length, take, drop, take-append-drop}
 use lib.Seq.{length-take-le}
 use Rattle.memory.specs.Bytes.{Bytes, part}
@@ -19,21 +19,21 @@ use Rattle.bits.specs.Bits.{frameBit}
 use Rattle.bits.proofs.Laws.{front-bit}
 use Rattle.table.specs.declared.Counts.{Counts}
 use Rattle.table.specs.declared.Verdict.the-variants.{Accepted}
-use Rattle.table.specs.Records.{ipduRecord, objectRecord}
+use Rattle.table.specs.Records.{ipduRecord}
 use Rattle.table.specs.Check.{check}
 use Rattle.state.specs.Layout.{memorySize, slotAt, objectState}
 use Rattle.message.specs.Objects.{object, lets}
 use Rattle.message.specs.Delivery.{deliverInside}
 use Rattle.layer.specs.declared.Admission.the-variants.{Admitted, Refused}
 use Rattle.layer.specs.declared.Answer.the-variants.{WrongMemory, Stopped}
-use Rattle.layer.specs.Answers.{Outcome, outcome, valueOf, front, admission, follow}
+use Rattle.layer.specs.Answers.{Outcome, valueOf, front, admission, follow}
 use Rattle.layer.specs.Start.{startCall}
 use Rattle.layer.specs.Calls.{isObject, stopIn, wants, request, sendOf, sendIn, initialiseIn}
 use Rattle.layer.specs.Tick.{tickIn}
 use Rattle.layer.specs.Step.{Call, start, stop, send, initialise, receive, status, marks, clearMarks, startPeriodic, stopPeriodic, indication, confirm, tick, areaSize, step}
 use Rattle.layer.proofs.Laws.{ipdu-short}
-use Rattle.trace.specs.Book.{Book, fed, advance, bookBit}
-use Rattle.trace.specs.Demand3.{Typed, AllTyped, done, wordOf, frame, names, Judged, CallKept, AllKept}
+use Rattle.trace.specs.Book.{Book, fed, advance}
+use Rattle.trace.specs.Demand3.{Typed, AllTyped, done, wordOf, frame, Judged, CallKept, AllKept}
 use Rattle.trace.proofs.Agree.{Agrees}
 use Rattle.trace.proofs.Unseen.{Unseen}
 use Rattle.trace.proofs.Kept.{agrees-send}

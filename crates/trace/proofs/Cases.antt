@@ -1,8 +1,7 @@
 -- Document 01's cases 1 to 11, as one statement over the list of cases, proved by computation from the definitions.
 -- Assumes nothing.
-use mathlib.Core.List.{List, [], _∷_}
-use mathlib.Core.Path.{_≡_, refl}
-use lib.ListN.{replicate}
+use mathlib.Core.List.{List}
+use mathlib.Core.Path.{refl}
 use Rattle.memory.specs.Bytes.{value, bytesOf, part, get, replaced}
 use Rattle.bits.specs.Bits.{bit, frameBit, place, room, number, frame, written, packed, unpacked, owns}
 use Rattle.bits.specs.Slots.{position}
@@ -21,7 +20,7 @@ use Rattle.layer.specs.Calls.{stopIn, wants, request, sendOf, sendIn, initialis
 use Rattle.transmission.specs.Ticks.{delayed, expires, aged, fires, counted, late, watched}
 use Rattle.layer.specs.Tick.{tickIpdu, tickIn}
 use Rattle.layer.specs.Start.{blank, started, startCall}
-use Rattle.layer.specs.Step.{step, run}
+use Rattle.layer.specs.Step.{step}
 use Rattle.trace.specs.Cases.{AllHold, cases}
 
 pub cases-hold : AllHold cases

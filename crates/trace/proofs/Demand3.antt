@@ -1,7 +1,7 @@
 -- Demand 3: the claim holds of every table.
 -- Assumes: the table holds bytes, and arguments are of the types that the calls take (`Typed`).
 use mathlib.Core.Bool.{true}
-use mathlib.Core.List.{List, _∷_}
+use mathlib.Core.List.{List}
 use mathlib.Core.Path.{_≡_, refl, ap}
 use Prim.Native.Nat.{ℕ}
 use Rattle.memory.specs.Bytes.{Bytes}

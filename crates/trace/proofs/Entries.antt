@@ -4,20 +4,19 @@
 use mathlib.Core.Bool.{Bool, true, false, not, _&&_, _||_}
 use mathlib.Core.List.{List, [], _∷_}
 use mathlib.Core.Logic.{⊎-elim}
-use mathlib.Core.Path.{_≡_, refl, sym, ap, _∙_}
+use mathlib.Core.Path.{_≡_, refl, sym}
 use Prim.Native.Nat.{ℕ, zero, suc, _≤_, _<_}
 use native.Mathlib.Nat.{not-suc-le-zero}
 use native.Mathlib.Omega.{arith}
 use borrow.Author.Tests.{eqb-true, eq-eqb, lt-ltb, ltb-true}
 use lib.Dec.{leb, ltb, eqb}
-use lib.ListN.{length}
-use Rattle.memory.specs.Search.{pick, fold}
+use Rattle.memory.specs.Search.{fold}
 use Rattle.memory.proofs.Search.{picked}
 use Rattle.memory.proofs.Tests.{and-split, eq-or-ne, true-or-false, true-not-false}
 use Rattle.table.specs.declared.Counts.{Counts}
 use Rattle.table.specs.Records.{objectRecord}
 use Rattle.layer.specs.Step.{Call, areaSize}
-use Rattle.trace.specs.Book.{Entry, Book, Fed, fedStart, fedStop, fedSend, fedInitialise, fedOther, fed, enter, sends, openEntry, opened, keeps, unopened, accepts, entered, advance, ownsBit, messageBit, bookBit}
+use Rattle.trace.specs.Book.{Entry, Book, Fed, fedStart, fedStop, fedSend, fedInitialise, fedOther, fed, enter, sends, openEntry, opened, keeps, accepts, entered, advance, ownsBit, messageBit, bookBit}
 
 abbrev pub has : ℕ → List Entry → Bool
 has i [] = false

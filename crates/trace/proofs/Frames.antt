@@ -2,22 +2,21 @@
 -- gives its low bits. And internal delivery: it passes the whole value, whatever the sender's filter says.
 -- Assumes nothing.
 use mathlib.Core.Bool.{Bool, true, false}
-use mathlib.Core.List.{List, [], _++_}
+use mathlib.Core.List.{List, _++_}
 use mathlib.Core.Logic.{_⊎_, inl, inr, ⊎-elim}
 use mathlib.Core.Path.{_≡_, refl, sym, ap, ap₂, _∙_}
 use Prim.Native.Nat.{ℕ, _+_, _-_, _*_, _%_, _^_, _≤_, _<_}
 use native.Mathlib.Omega.{arith}
-use borrow.Author.Tests.{eqb-true, eq-eqb, ltb-true}
-use lib.Dec.{ltb, eqb}
+use borrow.Author.Tests.{eq-eqb}
+use lib.Dec.{eqb}
 use lib.ListN.{length, take, drop, take-append-drop}
 use lib.Seq.{length-take-le}
 use Rattle.memory.specs.Bytes.{Bytes, part, replaced}
 use Rattle.memory.specs.Search.{pick}
 use Rattle.memory.proofs.Laws.{part-replaced, part-apart, part-length, part-bytes, part-front}
-use Rattle.memory.proofs.Tests.{and-split, true-or-false}
+use Rattle.memory.proofs.Tests.{true-or-false}
 use Rattle.bits.specs.declared.Order.{Order}
 use Rattle.bits.specs.Bits.{room, packed, unpacked}
-use Rattle.bits.specs.Slots.{position}
 use Rattle.bits.proofs.Laws.{Fits, packed-length, packed-bytes, round-trip, unpacked-front}
 use Rattle.bits.proofs.Places.{room-slot, position-twice}
 use Rattle.table.specs.declared.Counts.{Counts}
@@ -27,10 +26,8 @@ use Rattle.table.specs.Records.{none, ipduRecord, objectRecord}
 use Rattle.table.specs.Rules.{orderOf}
 use Rattle.table.specs.Decode.{ipduOf, objectOf, Right}
 use Rattle.table.proofs.Accepted.{Usable, usable}
-use Rattle.table.proofs.Facts.{ipdu-facts}
 use Rattle.state.specs.declared.ObjectState.{ObjectState}
-use Rattle.state.specs.Layout.{slotAt, objectRow, objectState, withObjectState, ipduState, withIpduState}
-use Rattle.state.specs.Updates.{withWanted}
+use Rattle.state.specs.Layout.{slotAt, objectRow, objectState, withObjectState, ipduState}
 use Rattle.state.specs.Ranges.{Ready}
 use Rattle.state.proofs.Laws.{object-other, object-read, ipdu-keeps-objects}
 use Rattle.state.proofs.Ready.{object-row, ready-bytes, ready-kept, ready-object}
@@ -38,10 +35,10 @@ use Rattle.message.specs.Objects.{object, Placed, lets, filtered, marked, deliv
 use Rattle.message.specs.Delivery.{deliverInside, deliverFrame}
 use Rattle.message.proofs.Kept.{kept-filtered, ready-inside, ready-frame, right-placed, pack-length}
 use Rattle.message.proofs.Apart.{inside-row, frame-row}
-use Rattle.transmission.specs.Requests.{ipdu, goes, offered, handed, timerSet}
+use Rattle.transmission.specs.Requests.{ipdu, timerSet}
 use Rattle.layer.specs.declared.Answer.the-variants.{Done}
 use Rattle.layer.specs.Answers.{Outcome, outcome, valueOf}
-use Rattle.layer.specs.Calls.{isObject, isIpdu, wants, request, sendOf, sendIn, receiveIn, timed, indicationOf}
+use Rattle.layer.specs.Calls.{isObject, request, sendOf, sendIn, receiveIn, timed, indicationOf}
 use Rattle.layer.proofs.Laws.{object-there, object-kind, wants-some, ipdu-short, has-ipdu}
 use Rattle.trace.proofs.Rows.{pack-row, pack-holds, Handed, request-hands, request-rows}
 

@@ -1,18 +1,16 @@
 -- Frames handed over: the slots of a request area that its word names hold the I-PDUs' bytes as they stand in working memory.
 -- Assumes nothing.
 use mathlib.Core.Bool.{Bool, true, false}
-use mathlib.Core.List.{List, [], _++_}
-use mathlib.Core.Logic.{_⊎_, inl, inr, ⊎-elim}
-use mathlib.Core.Path.{_≡_, refl, sym, ap, _∙_}
-use Prim.Native.Nat.{ℕ, zero, suc, _+_, _-_, _*_, _^_, _≤_, _<_}
+use mathlib.Core.List.{List}
+use mathlib.Core.Logic.{_⊎_, ⊎-elim}
+use mathlib.Core.Path.{_≡_, sym, ap, _∙_}
+use Prim.Native.Nat.{ℕ, suc, _+_, _-_, _*_, _^_, _≤_, _<_}
 use native.Mathlib.Nat.{add-zero}
 use native.Mathlib.Omega.{arith}
-use lib.ListN.{length, take, replicate, length-append, length-replicate}
-use Rattle.memory.specs.Bytes.{part, replaced}
-use Rattle.memory.specs.Search.{pick}
-use Rattle.memory.proofs.Laws.{part-apart, part-length, part-front, replaced-length}
-use Rattle.memory.proofs.Tests.{true-or-false, lt-or-le}
-use Rattle.bits.specs.Bits.{bit}
+use lib.ListN.{length, take}
+use Rattle.memory.specs.Bytes.{part}
+use Rattle.memory.proofs.Laws.{part-front}
+use Rattle.memory.proofs.Tests.{true-or-false}
 use Rattle.bits.proofs.Numbers.{bit-of-zero, bit-added}
 use Rattle.table.specs.declared.Counts.{Counts}
 use Rattle.table.specs.Records.{ipduRecord}

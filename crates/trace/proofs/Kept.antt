@@ -1,43 +1,39 @@
 -- Send and initialise keep working memory in agreement with the book of demand 3.
 -- Assumes nothing.
-use mathlib.Core.Bool.{Bool, true, false, not, _&&_}
-use mathlib.Core.List.{List, [], _∷_}
-use mathlib.Core.Logic.{_⊎_, inl, inr, ⊎-elim}
+use mathlib.Core.Bool.{Bool, true, false}
+use mathlib.Core.List.{List}
+use mathlib.Core.Logic.{_⊎_, inl, ⊎-elim}
 use mathlib.Core.Path.{_≡_, refl, sym, ap, ap₂, _∙_}
-use Prim.Native.Nat.{ℕ, _+_, _-_, _*_, _%_, _^_, _≤_, _<_}
+use Prim.Native.Nat.{ℕ, _+_, _-_, _%_, _^_, _≤_, _<_}
 use native.Mathlib.Omega.{arith}
-use borrow.Author.Tests.{eqb-true, eqb-false, eq-eqb, ne-eqb, ltb-true}
-use lib.Dec.{ltb, eqb}
+use borrow.Author.Tests.{eq-eqb, ne-eqb}
 use lib.ListN.{length}
 use Rattle.memory.specs.Bytes.{value, part, get}
 use Rattle.memory.specs.Search.{pick}
-use Rattle.memory.proofs.Tests.{and-split, eq-or-ne, true-or-false}
-use Rattle.bits.specs.Bits.{frameBit}
+use Rattle.memory.proofs.Tests.{eq-or-ne, true-or-false}
 use Rattle.filter.specs.Filters.{passes}
 use Rattle.table.specs.declared.Counts.{Counts}
 use Rattle.table.specs.declared.Direction.{Direction}
 use Rattle.table.specs.declared.Direction.the-variants.{Send, Receive}
 use Rattle.table.specs.declared.Object.{Object}
-use Rattle.table.specs.Records.{none, ipduRecord, objectRecord}
+use Rattle.table.specs.Records.{objectRecord}
 use Rattle.table.specs.Check.{depths}
 use Rattle.table.specs.Decode.{objectOf}
-use Rattle.table.proofs.Accepted.{Usable, usable}
+use Rattle.table.proofs.Accepted.{Usable}
 use Rattle.state.specs.declared.ObjectState.{ObjectState}
-use Rattle.state.specs.Layout.{stoppedAt, slotAt, objectRow, objectState, withObjectState, ipduState, withIpduState}
-use Rattle.state.specs.Updates.{withOld, withValue, withQueue, withWanted}
+use Rattle.state.specs.Layout.{stoppedAt, slotAt, objectRow, objectState, withObjectState}
 use Rattle.state.specs.Ranges.{Ready}
 use Rattle.state.proofs.Laws.{object-part, object-stored, object-other}
 use Rattle.state.proofs.Ready.{ObjectKept, kept-fits, object-row, ready-kept, ready-object}
-use Rattle.message.specs.Objects.{object, Placed, lets, filtered, pack, initialiseAs, initialise}
+use Rattle.message.specs.Objects.{object, Placed, filtered, pack, initialise}
 use Rattle.message.proofs.Kept.{kept-filtered, ready-pack, ready-placed}
-use Rattle.transmission.specs.Requests.{ipdu, offered}
-use Rattle.layer.specs.Answers.{Outcome, outcome}
-use Rattle.layer.specs.Calls.{isObject, wants, request, sendIn}
+use Rattle.layer.specs.Answers.{Outcome}
+use Rattle.layer.specs.Calls.{isObject, request, sendIn}
 use Rattle.layer.proofs.Laws.{object-kind}
-use Rattle.trace.specs.Book.{Entry, Book, enter, sends, lastOf, keeps, counted, sent, bookBit}
+use Rattle.trace.specs.Book.{Entry, Book, enter, sends, lastOf, keeps, counted, sent}
 use Rattle.trace.proofs.Rows.{pack-row, pack-front}
-use Rattle.trace.proofs.Frames.{here, inner, judge, after, inner-ready, after-ready, sent-as}
-use Rattle.trace.proofs.Agree.{Same, same-refl, same-ipdu, Agrees, agrees-same, pack-bits}
+use Rattle.trace.proofs.Frames.{here, inner, judge, sent-as}
+use Rattle.trace.proofs.Agree.{Same, Agrees, agrees-same, pack-bits}
 use Rattle.trace.proofs.Unseen.{Unseen, unseen-inside, unseen-request}
 
 -- ---- a row of a send object set, and perhaps its value packed

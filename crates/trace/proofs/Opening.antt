@@ -1,21 +1,20 @@
 -- After a start working memory agrees with the book of demand 3 as a start opens it.
 -- Assumes nothing.
 use mathlib.Core.Bool.{Bool, true, false}
-use mathlib.Core.List.{List, [], _∷_}
+use mathlib.Core.List.{List, []}
 use mathlib.Core.Logic.{_⊎_, inl, inr, ⊎-elim}
 use mathlib.Core.Path.{_≡_, refl, sym, ap, subst, _∙_}
-use Prim.Native.Nat.{ℕ, zero, suc, _+_, _*_, _/_, _%_, _^_, _≤_, _<_}
-use native.Mathlib.Nat.{zero-mod, zero-div, not-suc-le-zero}
+use Prim.Native.Nat.{ℕ, zero, suc, _+_, _/_, _%_, _^_, _≤_, _<_}
+use native.Mathlib.Nat.{zero-div, not-suc-le-zero}
 use native.Mathlib.Omega.{arith}
 use borrow.Author.Tests.{eqb-true, eqb-false, eq-eqb, ne-eqb}
 use lib.Dec.{eqb}
-use lib.ListN.{length, getD, drop, replicate, length-replicate, getD-replicate, List·getD-eq-default}
+use lib.ListN.{length, drop, List·getD-eq-default}
 use lib.Seq.{getD-take, getD-drop}
 use Rattle.memory.specs.Bytes.{Bytes, part}
-use Rattle.memory.specs.Search.{pick, fold}
-use Rattle.memory.proofs.Laws.{part-length}
+use Rattle.memory.specs.Search.{fold}
 use Rattle.memory.proofs.Search.{fold-view}
-use Rattle.memory.proofs.Tests.{lt-or-le, eq-or-ne, true-or-false}
+use Rattle.memory.proofs.Tests.{eq-or-ne, true-or-false}
 use Rattle.bits.specs.Bits.{bit, frameBit}
 use Rattle.table.specs.declared.Counts.{Counts}
 use Rattle.table.specs.declared.Direction.{Direction}
@@ -24,9 +23,9 @@ use Rattle.table.specs.Records.{ipduRecord, objectRecord}
 use Rattle.table.specs.Check.{depths}
 use Rattle.table.specs.Decode.{objectOf, Right}
 use Rattle.state.specs.declared.ObjectState.{ObjectState}
-use Rattle.state.specs.Layout.{memorySize, slotAt, ipduRow, objectRow, objectState, withObjectState}
+use Rattle.state.specs.Layout.{memorySize, slotAt, objectRow, objectState, withObjectState}
 use Rattle.state.proofs.Laws.{ipdu-part, object-part, object-length, object-stored, object-other}
-use Rattle.message.specs.Objects.{object, Placed, pack}
+use Rattle.message.specs.Objects.{object, Placed}
 use Rattle.message.proofs.Kept.{right-placed}
 use Rattle.transmission.specs.Requests.{ipdu}
 use Rattle.layer.proofs.Laws.{object-sends, object-receives}

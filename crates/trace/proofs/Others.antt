@@ -1,10 +1,10 @@
 -- Initialise, stop, and the calls that the book of demand 3 does not see keep working memory in agreement with it.
 -- Assumes nothing.
 use mathlib.Core.Bool.{Bool, true, false, not, _&&_}
-use mathlib.Core.List.{List, []}
+use mathlib.Core.List.{List}
 use mathlib.Core.Logic.{_⊎_, inl, inr, ⊎-elim}
 use mathlib.Core.Path.{_≡_, refl, sym, ap, subst, _∙_}
-use Prim.Native.Nat.{ℕ, _+_, _-_, _*_, _^_, _≤_, _<_}
+use Prim.Native.Nat.{ℕ, _+_, _-_, _^_, _≤_, _<_}
 use native.Mathlib.Omega.{arith}
 use borrow.Author.Tests.{eqb-true, eqb-false, ltb-true}
 use lib.Dec.{ltb, eqb}
@@ -12,27 +12,27 @@ use lib.ListN.{length}
 use Rattle.memory.specs.Bytes.{Bytes, bytesOf, value, part, get, replaced}
 use Rattle.memory.specs.Search.{pick}
 use Rattle.memory.proofs.Laws.{bytesOf-length, bytesOf-bytes, part-apart, get-replaced, replaced-length, replaced-bytes}
-use Rattle.memory.proofs.Tests.{and-split, true-or-false}
+use Rattle.memory.proofs.Tests.{true-or-false}
 use Rattle.table.specs.declared.Counts.{Counts}
 use Rattle.table.specs.declared.Direction.{Direction}
 use Rattle.table.specs.declared.Direction.the-variants.{Send, Receive}
 use Rattle.table.specs.Records.{ipduRecord, objectRecord}
 use Rattle.table.specs.Check.{depths}
-use Rattle.table.specs.Decode.{ipduOf, objectOf}
+use Rattle.table.specs.Decode.{ipduOf}
 use Rattle.state.specs.declared.ObjectState.{ObjectState}
-use Rattle.state.specs.Layout.{memorySize, stoppedAt, slotAt, ipduRow, objectRow, objectState, withObjectState, ipduState, withIpduState}
+use Rattle.state.specs.Layout.{stoppedAt, slotAt, ipduRow, objectRow, objectState, withObjectState, ipduState, withIpduState}
 use Rattle.state.specs.Updates.{withOld, withValue, withMarks, withQueue}
 use Rattle.state.specs.Ranges.{Ready}
 use Rattle.state.proofs.Laws.{ipdu-read, object-read}
 use Rattle.state.proofs.Ready.{ObjectKept, ready-kept, ready-object, ready-bytes}
-use Rattle.message.specs.Objects.{object, around, take, pack, initialiseAs, initialise}
-use Rattle.message.specs.Delivery.{deliverFrame, markObjects}
+use Rattle.message.specs.Objects.{object, around, take, initialiseAs, initialise}
+use Rattle.message.specs.Delivery.{deliverFrame}
 use Rattle.message.proofs.Laws.{around-lt}
 use Rattle.message.proofs.Kept.{kept-old, kept-value, kept-marks, kept-queue}
 use Rattle.transmission.specs.Requests.{ipdu, confirmed, timerSet}
 use Rattle.transmission.proofs.Kept.{kept-confirmed, ready-send-kept, ready-timer}
-use Rattle.layer.specs.Answers.{Outcome, outcome}
-use Rattle.layer.specs.Calls.{isObject, isIpdu, stopIn, initialiseIn, receiveIn, statusIn, marksIn, clearMarksIn, periodicIn, indicationOf, indicationIn, confirmIn}
+use Rattle.layer.specs.Answers.{Outcome}
+use Rattle.layer.specs.Calls.{isObject, isIpdu, stopIn, initialiseIn, receiveIn, statusIn, marksIn, clearMarksIn, periodicIn, indicationIn, confirmIn}
 use Rattle.layer.proofs.Laws.{object-there, object-kind, object-sends, object-receives, ipdu-there, ipdu-direction, ipdu-sends, ipdu-receives, ipdu-short}
 use Rattle.trace.specs.Book.{Entry, Book, enter, sends}
 use Rattle.trace.proofs.Agree.{Same, same-object, same-slot, Agrees, agrees-same}

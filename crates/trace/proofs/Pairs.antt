@@ -1,7 +1,7 @@
 -- Demand 3, two lists: calls alike but for dropped values give the same answers and frames, over memories that are alike in the
 -- first 8,192 bytes, and leave such memories.
 -- Assumes: the table holds bytes, and arguments are of the types that the calls take (`Typed`).
-use mathlib.Core.Bool.{Bool, true, false, not, _&&_}
+use mathlib.Core.Bool.{Bool, true, false}
 use mathlib.Core.List.{List, [], _∷_}
 use mathlib.Core.Logic.{⊎-elim}
 use mathlib.Core.Path.{_≡_, refl, sym, ap, subst, _∙_}
@@ -27,8 +27,8 @@ use Rattle.layer.specs.Start.{started, startCall}
 use Rattle.layer.specs.Calls.{isObject, stopIn, sendIn, initialiseIn, receiveIn, statusIn, marksIn, clearMarksIn, periodicIn, indicationIn, confirmIn}
 use Rattle.layer.specs.Tick.{tickIn}
 use Rattle.layer.specs.Step.{Call, start, stop, send, initialise, receive, status, marks, clearMarks, startPeriodic, stopPeriodic, indication, confirm, tick, areaSize, step}
-use Rattle.trace.specs.Book.{Book, sent, keeps, sends, accepts, advance}
-use Rattle.trace.specs.Demand3.{Typed, AllTyped, wordOf, frame, names, inside, Alike, same, areas, ticks, dropped, AllAlike, SameAnswer, AllSame}
+use Rattle.trace.specs.Book.{Book, keeps, advance}
+use Rattle.trace.specs.Demand3.{Typed, AllTyped, wordOf, inside, Alike, same, areas, ticks, dropped, AllAlike, SameAnswer, AllSame}
 use Rattle.trace.proofs.Agree.{Agrees}
 use Rattle.trace.proofs.Unseen.{Unseen}
 use Rattle.trace.proofs.Kept.{agrees-send}

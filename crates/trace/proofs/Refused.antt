@@ -14,17 +14,15 @@ use Rattle.table.specs.declared.Verdict.the-variants.{Accepted, WrongHeader, Wr
 use Rattle.table.specs.Check.{check}
 use Rattle.table.specs.Records.{ipduRecord, objectRecord}
 use Rattle.state.specs.Layout.{memorySize, objectState, ipduState}
-use Rattle.state.specs.Updates.{withWanted}
 use Rattle.message.specs.Objects.{object, lets, oldest, take}
 use Rattle.message.specs.Delivery.{deliverInside}
-use Rattle.transmission.specs.Requests.{ipdu}
 use Rattle.layer.specs.declared.Admission.{Admission}
 use Rattle.layer.specs.declared.Admission.the-variants.{Admitted, Refused}
 use Rattle.layer.specs.declared.Answer.{Answer}
 use Rattle.layer.specs.declared.Answer.the-variants.{Done, WrongId, WrongLength, Limit, NoMessage, NotRequested}
 use Rattle.layer.specs.Answers.{Outcome, outcome, numberOf, front, admission, follow}
 use Rattle.layer.specs.Start.{startOf, startCall}
-use Rattle.layer.specs.Calls.{isObject, isIpdu, stopIn, wants, request, sendOf, sendIn, initialiseIn, limited, receiveIn, statusIn, marksIn, clearMarksIn, periodicIn, indicationIn, confirmIn}
+use Rattle.layer.specs.Calls.{isObject, isIpdu, stopIn, wants, request, sendOf, sendIn, initialiseIn, receiveIn, statusIn, marksIn, clearMarksIn, periodicIn, indicationIn, confirmIn}
 use Rattle.layer.specs.Tick.{tickIn}
 use Rattle.layer.specs.Step.{Call, start, stop, send, initialise, receive, status, marks, clearMarks, startPeriodic, stopPeriodic, indication, confirm, tick, areaSize, step}
 

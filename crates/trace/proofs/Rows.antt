@@ -3,14 +3,13 @@
 use mathlib.Core.Bool.{Bool, true, false}
 use mathlib.Core.List.{List, _++_}
 use mathlib.Core.Logic.{_⊎_, inl, inr, ⊎-elim}
-use mathlib.Core.Path.{_≡_, refl, sym, ap, _∙_}
-use Prim.Native.Nat.{ℕ, _+_, _-_, _*_, _^_, _≤_, _<_}
+use mathlib.Core.Path.{_≡_, sym, ap, _∙_}
+use Prim.Native.Nat.{ℕ, _+_, _-_, _*_, _≤_, _<_}
 use native.Mathlib.Omega.{arith}
 use lib.Dec.{eqb}
 use lib.ListN.{length, take, replicate, length-append, length-replicate}
 use lib.Seq.{take-append-seam}
 use Rattle.memory.specs.Bytes.{value, part, get, replaced}
-use Rattle.memory.specs.Search.{pick}
 use Rattle.memory.proofs.Laws.{part-apart, part-replaced, part-length, part-front, replaced-length}
 use Rattle.memory.proofs.Tests.{true-or-false}
 use Rattle.bits.specs.Bits.{packed}
@@ -18,11 +17,11 @@ use Rattle.table.specs.declared.Object.{Object}
 use Rattle.table.specs.declared.Ipdu.{Ipdu}
 use Rattle.table.specs.Records.{none}
 use Rattle.state.specs.declared.IpduState.{IpduState}
-use Rattle.state.specs.Layout.{stoppedAt, slotAt, ipduRow, ipduState, withIpduState, objectRow, objectState}
+use Rattle.state.specs.Layout.{stoppedAt, slotAt, ipduRow, ipduState, objectRow, objectState}
 use Rattle.state.specs.Updates.{withWanted}
 use Rattle.state.proofs.Laws.{ipdu-keeps-objects, object-read}
 use Rattle.message.specs.Objects.{Placed, startBit, pack}
-use Rattle.message.proofs.Kept.{pack-length, pack-room, packed-slot-length}
+use Rattle.message.proofs.Kept.{pack-room, packed-slot-length}
 use Rattle.transmission.specs.Requests.{ipdu, goes, offered, handed}
 use Rattle.layer.specs.Answers.{valueOf}
 use Rattle.layer.specs.Calls.{HasIpdu, wants, request}

@@ -2,18 +2,17 @@
 -- depend on what the area held, nor on a value that is dropped where no object receives it inside.
 -- Assumes nothing.
 use mathlib.Core.Bool.{Bool, true, false, _&&_}
-use mathlib.Core.List.{List, []}
+use mathlib.Core.List.{List}
 use mathlib.Core.Logic.{⊎-elim}
-use mathlib.Core.Path.{_≡_, refl, sym, ap, _∙_}
-use Prim.Native.Nat.{ℕ, zero, suc, _+_, _*_, _^_, _≤_, _<_}
+use mathlib.Core.Path.{_≡_, refl, ap, _∙_}
+use Prim.Native.Nat.{ℕ, _^_, _≤_, _<_}
 use native.Mathlib.Nat.{zero-add}
 use native.Mathlib.Omega.{arith}
-use borrow.Author.Tests.{eqb-true, eq-eqb}
+use borrow.Author.Tests.{eqb-true}
 use lib.Pow.{pow-pos}
 use lib.Dec.{eqb}
 use lib.ListN.{length}
-use Rattle.memory.specs.Bytes.{part}
-use Rattle.memory.specs.Search.{pick, any, fold}
+use Rattle.memory.specs.Search.{pick, fold}
 use Rattle.memory.proofs.Search.{picked, any-false, fold-view}
 use Rattle.memory.proofs.Tests.{true-or-false, true-not-false}
 use Rattle.table.specs.declared.Counts.{Counts}
@@ -21,7 +20,7 @@ use Rattle.table.specs.Records.{ipduRecord, objectRecord}
 use Rattle.table.specs.Decode.{objectOf, Right}
 use Rattle.table.proofs.Accepted.{Usable, usable}
 use Rattle.state.specs.declared.ObjectState.{ObjectState}
-use Rattle.state.specs.Layout.{slotAt, objectState, withObjectState, ipduState}
+use Rattle.state.specs.Layout.{objectState, withObjectState, ipduState}
 use Rattle.state.specs.Updates.{counted, withWanted}
 use Rattle.state.specs.Ranges.{Ready}
 use Rattle.message.specs.Objects.{object, lets, filtered, deliver, pack}
@@ -35,7 +34,7 @@ use Rattle.layer.specs.Step.{areaSize}
 use Rattle.layer.proofs.Laws.{object-there, object-kind, wants-some}
 use Rattle.trace.specs.Book.{Book, keeps}
 use Rattle.trace.specs.Demand3.{names, inside}
-use Rattle.trace.proofs.Frames.{inner, judge, after, after-ready, sent-as}
+use Rattle.trace.proofs.Frames.{judge, after, after-ready, sent-as}
 use Rattle.trace.proofs.Agree.{Same, Agrees}
 use Rattle.trace.proofs.Unseen.{Unseen, sender-received, unseen-request}
 use Rattle.trace.proofs.Kept.{judge-is}

@@ -1,31 +1,26 @@
 -- Tick: the book of demand 3 does not see it, and each I-PDU that its word names was handed over as it stands in working memory.
 -- Assumes nothing.
-use mathlib.Core.Bool.{Bool, true, false}
-use mathlib.Core.List.{List, []}
-use mathlib.Core.Logic.{_⊎_, inl, inr, ⊎-elim}
-use mathlib.Core.Path.{_≡_, refl, sym, ap, subst, _∙_}
-use Prim.Native.Nat.{ℕ, zero, suc, _+_, _*_, _^_, _≤_, _<_}
+use mathlib.Core.Bool.{Bool}
+use mathlib.Core.List.{List}
+use mathlib.Core.Path.{_≡_, refl, ap, subst, _∙_}
+use Prim.Native.Nat.{ℕ, zero, suc, _+_, _^_, _≤_, _<_}
 use native.Mathlib.Omega.{arith}
 use lib.ListN.{length}
-use Rattle.memory.specs.Bytes.{part}
-use Rattle.memory.specs.Search.{pick, fold}
+use Rattle.memory.specs.Search.{pick}
 use Rattle.memory.proofs.Search.{picked}
-use Rattle.bits.specs.Bits.{bit}
-use Rattle.bits.proofs.Numbers.{bit-of-zero, bit-added}
 use Rattle.table.specs.declared.Counts.{Counts}
 use Rattle.table.specs.declared.Direction.{Direction}
 use Rattle.table.specs.declared.Direction.the-variants.{Send, Receive}
-use Rattle.table.specs.Records.{ipduRecord}
 use Rattle.state.specs.declared.IpduState.{IpduState}
-use Rattle.state.specs.Layout.{slotAt, ipduState, withIpduState}
+use Rattle.state.specs.Layout.{ipduState}
 use Rattle.state.specs.Ranges.{Ready}
 use Rattle.message.specs.Delivery.{markObjects}
-use Rattle.transmission.specs.Requests.{ipdu, goes, offered, handed}
+use Rattle.transmission.specs.Requests.{ipdu, offered, handed}
 use Rattle.transmission.specs.Ticks.{delayed, expires, aged, counted, late, watched}
 use Rattle.transmission.proofs.Kept.{kept-offered, ready-send-kept, ready-receive, ready-receive-kept}
 use Rattle.transmission.proofs.Ticked.{kept-delayed, kept-aged, kept-counted, kept-watched}
 use Rattle.layer.specs.Answers.{Outcome, valueOf}
-use Rattle.layer.specs.Tick.{Ticked, ticked, tickAs, tickIpdu, tickTurn, ticks, tickIn}
+use Rattle.layer.specs.Tick.{Ticked, tickAs, tickIpdu, tickTurn, ticks, tickIn}
 use Rattle.layer.specs.Step.{areaSize}
 use Rattle.layer.proofs.Laws.{sends-one}
 use Rattle.layer.proofs.Ticks.{tick-word, word-more}

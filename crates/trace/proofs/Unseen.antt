@@ -1,19 +1,18 @@
 -- What the book of demand 3 does not see: internal delivery, delivery of a frame, marks, periods, and the rows of I-PDUs.
 -- Assumes nothing.
 use mathlib.Core.Bool.{Bool, true, false, not, _&&_, _||_}
-use mathlib.Core.List.{List, []}
-use mathlib.Core.Logic.{_⊎_, inl, inr, ⊎-elim}
-use mathlib.Core.Path.{_≡_, refl, sym, ap, _∙_}
-use Prim.Native.Nat.{ℕ, _+_, _-_, _*_, _^_, _≤_, _<_}
+use mathlib.Core.List.{List}
+use mathlib.Core.Logic.{_⊎_, ⊎-elim}
+use mathlib.Core.Path.{_≡_, refl, ap, _∙_}
+use Prim.Native.Nat.{ℕ, _-_, _^_, _≤_, _<_}
 use native.Mathlib.Omega.{arith}
-use borrow.Author.Tests.{eqb-true, eqb-false, eq-eqb, ne-eqb}
-use lib.Dec.{leb, ltb, eqb}
-use lib.ListN.{length}
+use borrow.Author.Tests.{eqb-true, ne-eqb}
+use lib.Dec.{eqb}
 use Rattle.memory.specs.Bytes.{bytesOf, replaced}
 use Rattle.memory.specs.Search.{pick, fold}
 use Rattle.memory.proofs.Laws.{bytesOf-length}
 use Rattle.memory.proofs.Search.{picked, fold-keeps}
-use Rattle.memory.proofs.Tests.{and-split, or-cases, true-or-false, true-not-false}
+use Rattle.memory.proofs.Tests.{and-split, or-cases}
 use Rattle.table.specs.declared.Counts.{Counts}
 use Rattle.table.specs.declared.ObjectRecord.{ObjectRecord}
 use Rattle.table.specs.Records.{none, ipduRecord, objectRecord}

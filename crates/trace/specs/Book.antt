@@ -1,6 +1,6 @@
 -- Document 01, "Demand 3's book": what it holds and how a call changes it. It is fed the table and the calls' arguments alone; of a
 -- request area it sees the length, of working memory nothing. Assumes nothing.
-use mathlib.Core.Bool.{Bool, true, false, not, _&&_, _||_}
+use mathlib.Core.Bool.{Bool, true, false, not, _&&_}
 use mathlib.Core.List.{List, [], _∷_}
 use Prim.Native.Nat.{ℕ, _+_, _%_}
 use lib.Dec.{leb, ltb, eqb}

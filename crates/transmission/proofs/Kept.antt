@@ -2,13 +2,12 @@
 -- Assumes nothing.
 use mathlib.Core.Bool.{Bool, true, false, not, _&&_, _||_}
 use mathlib.Core.List.{List}
-use mathlib.Core.Logic.{_⊎_, inl, inr, ⊎-elim}
-use mathlib.Core.Path.{_≡_, refl, sym, ap, _∙_}
-use Prim.Native.Nat.{ℕ, _+_, _-_, _*_, _^_, _≤_, _<_, max}
+use mathlib.Core.Logic.{_⊎_, ⊎-elim}
+use mathlib.Core.Path.{_≡_, sym, ap, _∙_}
+use Prim.Native.Nat.{ℕ, _-_, _^_, _≤_, _<_, max}
 use native.Mathlib.Omega.{arith}
-use borrow.Author.Tests.{leb-true, le-leb, eqb-true, eq-eqb, eqb-false}
+use borrow.Author.Tests.{leb-true, le-leb, eqb-true}
 use lib.Dec.{leb, eqb}
-use lib.ListN.{length}
 use Rattle.memory.specs.Bytes.{Bytes}
 use Rattle.memory.specs.Search.{pick, fold}
 use Rattle.memory.proofs.Laws.{get-lt}
@@ -30,7 +29,7 @@ use Rattle.state.specs.Updates.{withWanted}
 use Rattle.state.specs.Ranges.{inRangeAs, ipduInRange, Ready}
 use Rattle.state.proofs.Laws.{IpduFits}
 use Rattle.state.proofs.Ready.{ready-ipdu}
-use Rattle.transmission.specs.Requests.{ipdu, goes, made, offered, closed, confirmed, hasPeriod, periodSet, periodTurn, setPeriods, timerSet}
+use Rattle.transmission.specs.Requests.{ipdu, goes, made, offered, closed, confirmed, hasPeriod, periodSet, periodTurn, timerSet}
 
 -- ---- times of a table fit two bytes
 

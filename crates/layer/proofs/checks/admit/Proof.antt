@@ -2,7 +2,7 @@
 -- Assumes nothing.
 use borrow.Author.Needs.{needs}
 use Rattle.layer.proofs.checks.admit.Statement.{statement}
-use mathlib.Core.Path.{_≡_, refl, sym, ap, ap₂, _∙_}
+use mathlib.Core.Path.{sym, _∙_}
 use Rattle.table.proofs.Accepted.{accepted-right}
 use Rattle.layer.specs.Answers.{admission}
 use Rattle.layer.proofs.checks.admit.Tie as tie

@@ -3,10 +3,10 @@
 use borrow.Author.Needs.{needs}
 use Rattle.layer.proofs.frames.confirm_checked.Statement.{statement}
 use Rattle.layer.proofs.frames.confirm_checked.Tie as tie
-use mathlib.Core.Path.{_≡_, refl, sym, ap, ap₂, _∙_}
-use Prim.Native.Nat.{ℕ, _≤_}
+use mathlib.Core.Path.{sym, ap, _∙_}
+use Prim.Native.Nat.{ℕ}
 use native.Mathlib.Omega.{arith}
-use borrow.Author.Tests.{leb-true, lt-ltb, le-ltb, ltb-true, eq-eqb, ne-eqb, not-true, not-false}
+use borrow.Author.Tests.{eq-eqb, ne-eqb, not-true, not-false}
 use Rattle.state.specs.declared.IpduState.{IpduState}
 use Rattle.layer.specs.Calls.{confirmIn}
 use Rattle.layer.proofs.Laws.{ipdu-there}

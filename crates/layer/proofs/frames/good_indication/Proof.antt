@@ -3,11 +3,11 @@
 use borrow.Author.Needs.{needs}
 use Rattle.layer.proofs.frames.good_indication.Statement.{statement}
 use Rattle.layer.proofs.frames.good_indication.Tie as tie
-use mathlib.Core.Path.{_≡_, refl, sym, ap, ap₂, _∙_}
+use mathlib.Core.Path.{sym, ap, _∙_}
 use mathlib.Core.Logic.{inl}
 use Prim.Native.Nat.{ℕ, _+_, _*_, _≤_, _<_}
 use native.Mathlib.Omega.{arith}
-use borrow.Author.Tests.{leb-true, lt-ltb, le-ltb, ltb-true, eq-eqb, ne-eqb, not-true, not-false}
+use borrow.Author.Tests.{eq-eqb, ne-eqb}
 use lib.ListN.{length}
 use Rattle.table.specs.declared.Ipdu.{Ipdu}
 use Rattle.table.specs.Decode.{ipduOf}

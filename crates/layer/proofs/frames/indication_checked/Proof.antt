@@ -3,9 +3,8 @@
 use borrow.Author.Needs.{needs}
 use Rattle.layer.proofs.frames.indication_checked.Statement.{statement}
 use Rattle.layer.proofs.frames.indication_checked.Tie as tie
-use mathlib.Core.Path.{_≡_, refl, sym, ap, ap₂, _∙_}
-use native.Mathlib.Omega.{arith}
-use borrow.Author.Tests.{leb-true, lt-ltb, le-ltb, ltb-true, eq-eqb, ne-eqb, not-true, not-false}
+use mathlib.Core.Path.{sym, _∙_}
+use borrow.Author.Tests.{not-true, not-false}
 use Rattle.layer.specs.Calls.{indicationIn}
 use Rattle.layer.proofs.Laws.{ipdu-there}
 

@@ -1,7 +1,6 @@
 -- `layer::objects::limited` meets its contract.
 -- Assumes nothing.
-use borrow.Author.Tests.{leb-true, lt-ltb, le-ltb, ltb-true, eq-eqb, ne-eqb, not-true, not-false}
-use borrow.Author.Needs.{needs}
+use borrow.Author.Tests.{eq-eqb, ne-eqb}
 use Rattle.layer.proofs.objects.limited.Statement.{statement}
 use Rattle.layer.proofs.objects.limited.Tie as tie
 

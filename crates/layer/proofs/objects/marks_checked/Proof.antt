@@ -1,9 +1,7 @@
 -- `layer::objects::marks_checked` meets its contract.
 -- Assumes nothing.
 use borrow.Author.Needs.{needs}
-use mathlib.Core.Path.{_≡_, refl, sym, ap, _∙_}
-use native.Mathlib.Omega.{arith}
-use borrow.Author.Tests.{leb-true, lt-ltb, le-ltb, ltb-true, eq-eqb, ne-eqb, not-true, not-false}
+use borrow.Author.Tests.{lt-ltb, le-ltb}
 use Rattle.layer.specs.Calls.{marksIn}
 use Rattle.layer.proofs.objects.marks_checked.Statement.{statement}
 use Rattle.layer.proofs.objects.marks_checked.Tie as tie

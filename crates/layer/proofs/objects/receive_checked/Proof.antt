@@ -3,9 +3,9 @@
 use borrow.Author.Needs.{needs}
 use Rattle.layer.proofs.objects.receive_checked.Statement.{statement}
 use Rattle.layer.proofs.objects.receive_checked.Tie as tie
-use mathlib.Core.Path.{_≡_, refl, sym, ap, _∙_}
+use mathlib.Core.Path.{sym, ap, _∙_}
 use native.Mathlib.Omega.{arith}
-use borrow.Author.Tests.{leb-true, lt-ltb, le-ltb, ltb-true, eq-eqb, ne-eqb, not-true, not-false}
+use borrow.Author.Tests.{eq-eqb, ne-eqb, not-true, not-false}
 use Rattle.table.specs.declared.ObjectRecord.{ObjectRecord}
 use Rattle.table.specs.Decode.{objectOf}
 use Rattle.message.proofs.Kept.{ready-held}

@@ -1,7 +1,7 @@
 -- `layer::objects::status_of` meets its contract.
 -- Assumes nothing.
 use borrow.Author.Needs.{needs}
-use borrow.Author.Tests.{leb-true, lt-ltb, le-ltb, ltb-true, eq-eqb, ne-eqb, not-true, not-false}
+use borrow.Author.Tests.{eq-eqb, ne-eqb}
 use Rattle.layer.proofs.objects.status_of.Statement.{statement}
 use Rattle.layer.proofs.objects.status_of.Tie as tie
 

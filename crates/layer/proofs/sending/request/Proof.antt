@@ -3,9 +3,8 @@
 use borrow.Author.Needs.{needs}
 use Rattle.layer.proofs.sending.request.Statement.{statement}
 use Rattle.layer.proofs.sending.request.Tie as tie
-use mathlib.Core.Path.{_≡_, refl, sym, ap, ap₂, _∙_}
-use Prim.Native.Nat.{_+_, _*_, _≤_, _<_}
-use borrow.Author.Tests.{leb-true, lt-ltb, le-ltb, ltb-true, eq-eqb, ne-eqb, not-true, not-false}
+use mathlib.Core.Path.{sym, _∙_}
+use borrow.Author.Tests.{not-true, not-false}
 use native.Mathlib.Omega.{arith}
 use Rattle.layer.specs.Calls.{request}
 use Rattle.layer.proofs.Laws.{wants-some}

@@ -3,12 +3,12 @@
 use borrow.Author.Needs.{needs}
 use Rattle.layer.proofs.sending.send_checked.Statement.{statement}
 use Rattle.layer.proofs.sending.send_checked.Tie as tie
-use mathlib.Core.Path.{_≡_, refl, sym, ap, ap₂, _∙_}
+use mathlib.Core.Path.{sym, ap, ap₂, _∙_}
 use Prim.Native.Nat.{ℕ}
 use native.Mathlib.Omega.{arith}
-use borrow.Author.Tests.{leb-true, lt-ltb, le-ltb, ltb-true, eq-eqb, ne-eqb, not-true, not-false}
+use borrow.Author.Tests.{not-true, not-false}
 use Rattle.table.proofs.Accepted.{usable}
-use Rattle.message.proofs.Kept.{ready-held, ready-period, ready-placed}
+use Rattle.message.proofs.Kept.{ready-period, ready-placed}
 use mathlib.Core.List.{List}
 use Rattle.table.specs.declared.Object.{Object}
 use Rattle.layer.specs.Calls.{request, filterSend, sendOf, sendIn}

@@ -3,9 +3,7 @@
 use borrow.Author.Needs.{needs}
 use Rattle.layer.proofs.sending.wants.Statement.{statement}
 use Rattle.layer.proofs.sending.wants.Tie as tie
-use mathlib.Core.Path.{_≡_, refl, sym, ap, ap₂, _∙_}
-use borrow.Author.Tests.{leb-true, lt-ltb, le-ltb, ltb-true, eq-eqb, ne-eqb, not-true, not-false}
-use native.Mathlib.Omega.{arith}
+use borrow.Author.Tests.{eq-eqb, ne-eqb}
 use Rattle.layer.specs.Calls.{wants}
 
 returns : tie.Need-returns

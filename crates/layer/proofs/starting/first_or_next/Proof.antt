@@ -1,7 +1,6 @@
 -- `layer::starting::first_or_next` meets its contract.
 -- Assumes nothing.
-use borrow.Author.Tests.{leb-true, lt-ltb, le-ltb, ltb-true, eq-eqb, ne-eqb, not-true, not-false}
-use borrow.Author.Needs.{needs}
+use borrow.Author.Tests.{eq-eqb, ne-eqb}
 use Rattle.layer.proofs.starting.first_or_next.Statement.{statement}
 use Rattle.layer.proofs.starting.first_or_next.Tie as tie
 

@@ -2,7 +2,7 @@
 -- Assumes nothing.
 use borrow.Author.Needs.{needs}
 use Rattle.layer.proofs.starting.start.Statement.{statement}
-use mathlib.Core.Path.{_≡_, refl, sym, ap, ap₂, _∙_}
+use mathlib.Core.Path.{sym, _∙_}
 use Rattle.table.proofs.Accepted.{accepted-right}
 use Rattle.layer.specs.Start.{startCall}
 use Rattle.layer.specs.Step.{step}

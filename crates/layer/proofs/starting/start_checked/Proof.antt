@@ -1,16 +1,15 @@
 -- `layer::starting::start_checked` meets its contract.
 -- Assumes nothing.
 use borrow.Author.Needs.{needs}
-use mathlib.Core.Path.{_≡_, refl, sym, ap, ap₂, _∙_}
+use mathlib.Core.Path.{_≡_, sym, ap}
 use mathlib.Core.List.{List, [], _++_}
 use Prim.Native.Nat.{ℕ, _≤_}
 use native.Mathlib.Omega.{arith}
-use borrow.Author.Tests.{lt-ltb, le-leb, lt-leb}
+use borrow.Author.Tests.{le-leb, lt-leb}
 use lib.ListN.{length, take, drop}
 use lib.Seq.{length-take-le}
 use Rattle.layer.specs.declared.Answer.the-variants.{Done}
 use Rattle.layer.specs.Answers.{Outcome, outcome}
-use Rattle.layer.specs.Start.{started}
 use Rattle.layer.proofs.starting.start_checked.Statement.{statement}
 use Rattle.layer.proofs.starting.start_checked.Tie as tie
 

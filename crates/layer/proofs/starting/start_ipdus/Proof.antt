@@ -2,8 +2,8 @@
 -- Assumes nothing.
 use Rattle.layer.proofs.starting.start_ipdus.Statement.{statement}
 use Rattle.layer.proofs.starting.start_ipdus.Tie as tie
-use mathlib.Core.Path.{_≡_, refl, sym, ap, ap₂, _∙_}
-use Prim.Native.Nat.{ℕ, suc, _-_, _≤_}
+use mathlib.Core.Path.{_≡_, refl}
+use Prim.Native.Nat.{ℕ, _-_, _≤_}
 use native.Mathlib.Numerals.{unary-clauses}
 use native.Mathlib.Omega.{arith}
 use borrow.Author.Needs.{needs}

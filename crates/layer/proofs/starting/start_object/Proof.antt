@@ -3,10 +3,9 @@
 use borrow.Author.Needs.{needs}
 use Rattle.layer.proofs.starting.start_object.Statement.{statement}
 use Rattle.layer.proofs.starting.start_object.Tie as tie
-use mathlib.Core.Path.{_≡_, refl, sym, ap, ap₂, _∙_}
+use mathlib.Core.Path.{sym, ap, _∙_}
 use mathlib.Core.List.{List}
 use Prim.Native.Nat.{ℕ}
-use native.Mathlib.Omega.{arith}
 use Rattle.table.specs.declared.Direction.{Direction}
 use Rattle.state.specs.declared.ObjectState.{ObjectState}
 use Rattle.state.specs.Layout.{withObjectState}

@@ -1,8 +1,8 @@
 -- `layer::starting::start_objects` meets its contract. The invariant: the turns of the objects passed, and their depths.
 -- Assumes nothing.
 use Rattle.layer.proofs.starting.start_objects.Statement.{statement}
-use mathlib.Core.Path.{_≡_, refl, sym, ap, ap₂, _∙_}
-use Prim.Native.Nat.{ℕ, suc, _+_, _-_, _≤_}
+use mathlib.Core.Path.{_≡_, refl, ap, ap₂}
+use Prim.Native.Nat.{ℕ, _+_, _-_, _≤_}
 use native.Mathlib.Numerals.{unary-clauses}
 use native.Mathlib.Omega.{arith}
 use borrow.Author.Needs.{needs}

@@ -3,7 +3,7 @@
 use borrow.Author.Needs.{needs}
 use Rattle.layer.proofs.starting.write_all.Statement.{statement}
 use Rattle.layer.proofs.starting.write_all.Tie as tie
-use mathlib.Core.Path.{_≡_, refl, sym, ap, ap₂, _∙_}
+use mathlib.Core.Path.{ap, _∙_}
 use Rattle.memory.specs.Search.{fold}
 use Rattle.layer.proofs.Fresh.{cleared}
 use Rattle.layer.specs.Start.{startIpdu, startObject, started}

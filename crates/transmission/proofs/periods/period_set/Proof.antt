@@ -1,7 +1,6 @@
 -- `transmission::periods::period_set` meets its contract.
 -- Assumes nothing.
 use Rattle.transmission.specs.Requests.{periodSet}
-use borrow.Author.Needs.{needs}
 use Rattle.transmission.proofs.periods.period_set.Statement.{statement}
 use Rattle.transmission.proofs.periods.period_set.Tie as tie
 

@@ -3,8 +3,8 @@
 use borrow.Author.Needs.{needs}
 use Rattle.transmission.proofs.periods.period_turn.Statement.{statement}
 use Rattle.transmission.proofs.periods.period_turn.Tie as tie
-use mathlib.Core.Path.{_≡_, refl, sym, ap, _∙_}
-use borrow.Author.Tests.{lt-ltb, le-ltb, eq-eqb, ne-eqb, not-true, not-false}
+use mathlib.Core.Path.{sym, ap, _∙_}
+use borrow.Author.Tests.{not-true, not-false}
 use Rattle.table.specs.declared.Ipdu.{Ipdu}
 use Rattle.transmission.specs.Requests.{hasPeriod}
 

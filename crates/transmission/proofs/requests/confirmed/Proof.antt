@@ -1,8 +1,6 @@
 -- `transmission::requests::confirmed` meets its contract.
 -- Assumes nothing.
-use borrow.Author.Tests.{lt-ltb, le-ltb, eq-eqb, ne-eqb, not-true, not-false}
 use Rattle.transmission.specs.Requests.{confirmed}
-use borrow.Author.Needs.{needs}
 use Rattle.transmission.proofs.requests.confirmed.Statement.{statement}
 use Rattle.transmission.proofs.requests.confirmed.Tie as tie
 

@@ -3,7 +3,6 @@
 use borrow.Author.Needs.{needs}
 use Rattle.transmission.proofs.requests.hand_over.Statement.{statement}
 use Rattle.transmission.proofs.requests.hand_over.Tie as tie
-use mathlib.Core.Path.{_≡_, refl, sym, ap, _∙_}
 use Prim.Native.Nat.{_+_, _*_}
 use native.Mathlib.Omega.{arith}
 use Rattle.memory.proofs.Laws.{bytesOf-front}

@@ -1,12 +1,11 @@
 -- `transmission::requests::low_bytes` meets its contract.
 -- Assumes nothing.
 use borrow.Author.Needs.{needs}
-use mathlib.Core.Path.{_≡_, refl, sym, ap, _∙_}
-use Prim.Native.Nat.{_*_, _^_}
+use mathlib.Core.Path.{sym}
+use Prim.Native.Nat.{_*_}
 use native.Mathlib.Nat.{mod-eq-of-lt}
 use lib.Pow.{pow-pos}
 use Rattle.memory.proofs.Laws.{bytes-bits}
-use native.Mathlib.Omega.{arith}
 use Rattle.transmission.proofs.requests.low_bytes.Statement.{statement}
 use Rattle.transmission.proofs.requests.low_bytes.Tie as tie
 

@@ -1,8 +1,7 @@
 -- `transmission::requests::made` meets its contract.
 -- Assumes nothing.
-use borrow.Author.Tests.{lt-ltb, le-ltb, eq-eqb, ne-eqb, not-true, not-false}
+use borrow.Author.Tests.{eq-eqb, ne-eqb}
 use Rattle.transmission.specs.Requests.{made}
-use borrow.Author.Needs.{needs}
 use Rattle.transmission.proofs.requests.made.Statement.{statement}
 use Rattle.transmission.proofs.requests.made.Tie as tie
 

@@ -3,10 +3,8 @@
 use borrow.Author.Needs.{needs}
 use Rattle.transmission.proofs.requests.offer.Statement.{statement}
 use Rattle.transmission.proofs.requests.offer.Tie as tie
-use mathlib.Core.Path.{_≡_, refl, sym, ap, _∙_}
-use Prim.Native.Nat.{_^_, _<_}
-use native.Mathlib.Omega.{arith}
-use borrow.Author.Tests.{lt-ltb, le-ltb, eq-eqb, ne-eqb, not-true, not-false}
+use mathlib.Core.Path.{sym, _∙_}
+use borrow.Author.Tests.{not-true, not-false}
 use lib.Pow.{pow-lt}
 use Rattle.transmission.specs.Requests.{goes, offered}
 

@@ -1,6 +1,6 @@
 -- `transmission::ticks::watched` meets its contract.
 -- Assumes nothing.
-use mathlib.Core.Path.{_≡_, refl, sym, ap, _∙_}
+use mathlib.Core.Path.{sym, _∙_}
 use Rattle.transmission.specs.Ticks.{late, watched}
 use borrow.Author.Needs.{needs}
 use Rattle.transmission.proofs.ticks.watched.Statement.{statement}
