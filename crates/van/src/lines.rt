@@ -8,7 +8,7 @@ use layer::Answer;
 use libc::STDOUT_FILENO;
 use table::IpduNumber;
 use table::ObjectNumber;
-ghost use Prim.Native.Nat.{_+_, _≤_, _<_};
+ghost use Prim.Native.Nat.{_+_, _^_, _≤_, _<_};
 ghost use lib.ListN.{length};
 
 // Bytes of an I-PDU's slot in the request area.
@@ -141,9 +141,9 @@ fn print_good(good: bool) {
     }
 }
 
-// A tick after so many quiet ones, whose line is still to be printed; it gives the number of those that are so after it.
+// A tick after a number of quiet ones that have no line yet; it gives their number after it.
 fn tick(t: &[u8], m: &mut [u8], area: &mut [u8; AREA_SIZE], quiet: u32) -> u32
-    requires { ⌜ quiet < 4294967295 ⌝ }
+    requires { ⌜ quiet + 1 < 2 ^ 32 ⌝ }
     ensures { λ r. ⌜ r ≤ quiet + 1 ⌝ }
 {
     let answer = layer::tick(t, m, area);
