@@ -15,11 +15,12 @@ timed() { # NAME COMMAND..: a row with the name, wall and processor
     times=$( { time "${@:2}" > "$out/said" 2>&1; } 2>&1 ) || { echo "$1 not proved"; return; }
     awk -v name="$1" '{ printf "%-14s %7.1f %7.1f\n", name, $1, $2 + $3 }' <<< "$times"
 }
-edit() { # CRATE PROOF: the first run fills the incremental folder, the timed one follows the change
+edit() { # CRATE PROOF: the first run fills the incremental folder, the timed one follows the change, which is then undone
     rt dev "$1" > /dev/null 2>&1
     echo '-- Changed.' >> "crates/$1/proofs/$2"
     timed "dev $1" rt dev "$1"
     sed -n "s|^crate $1: modules|    $2: modules|p" "$out/said"
+    git checkout -q .
 }
 
 printf '%-14s %7s %7s\n' crate wall cpu
