@@ -1,6 +1,7 @@
 // Makes one call of the layer ten times, each time from the same memory; bench/layer.sh counts its instructions. `case12` is
 // document 01's case 12. `large` has 32 I-PDUs and 128 objects, in both byte orders, with mixed filters:
-//   I-PDUs 0..15 are sent, in all three modes, with objects 4k..4k+3 each, the third of them pending;
+//   I-PDUs 0..15 are sent, in all three modes, eight of them with a period, with objects 4k..4k+3 each, the third of them
+//   pending;
 //   I-PDU 16 has the unqueued objects 64..71, I-PDU 17 the objects 72..79 with queues of depth 4, all eight filters let
 //   `FRAME` pass, and I-PDUs 18..31 have objects 80..121, three each, every third with a queue of depth 8;
 //   objects 122..127 have the sending objects 12, 16, 17, 21, 33 and 63.
@@ -31,6 +32,7 @@ extern "C" {
         t: *const u8, tl: usize, m: *mut u8, ml: usize, ipdu: u32, good: u32, bytes: *const u8, bl: usize,
     ) -> Answer;
     fn birnenschloss_confirm(t: *const u8, tl: usize, m: *mut u8, ml: usize, ipdu: u32, good: u32) -> Answer;
+    fn birnenschloss_tick(t: *const u8, tl: usize, m: *mut u8, ml: usize, area: *mut u8, al: usize) -> Answer;
 }
 
 const FRAME: [u8; 8] = [0x5A, 0xC3, 0x7E, 0x91, 0x3C, 0xE7, 0xA5, 0x69];
@@ -52,6 +54,7 @@ pub enum Call {
     StopPeriodic,
     Indication(u32, u32),
     Confirm(u32, u32),
+    Tick,
 }
 use Call::*;
 
@@ -72,6 +75,7 @@ fn make(call: Call, t: &[u8], m: &mut [u8], area: &mut [u8]) -> Answer {
             StopPeriodic => birnenschloss_stop_periodic(tp, tl, mp, ml),
             Indication(k, good) => birnenschloss_indication(tp, tl, mp, ml, k, good, FRAME.as_ptr(), FRAME.len()),
             Confirm(k, good) => birnenschloss_confirm(tp, tl, mp, ml, k, good),
+            Tick => birnenschloss_tick(tp, tl, mp, ml, area.as_mut_ptr(), area.len()),
         }
     }
 }
@@ -167,6 +171,9 @@ fn rows(large: bool) -> Vec<Row> {
     let sent = [Start, Send(0, 5)];
     let confirmed = [Start, Send(0, 5), Confirm(0, 1)];
     let arrived = [Start, Indication(16, 1), Indication(17, 1)];
+    let periodic = [Start, StartPeriodic];
+    let waits = [Start, Send(0, 5), Confirm(0, 1), Send(0, 6)];
+    let ticks = |before: &[Call], count| [before, &vec![Tick; count]].concat();
     let of_0 = if large { 0..4 } else { 0..1 };
     row("refused", &[Start], Marks(u32::MAX), (1, 0), (0..1, 0), (0, false));
     row("refused_start", &[Start], StartShort, (6, 0), (0..1, 0), (0, false));
@@ -181,7 +188,10 @@ fn rows(large: bool) -> Vec<Row> {
     row("start_periodic", &[Start], StartPeriodic, (0, 0), (0..1, 0), (0, false));
     row("stop_periodic", &[Start, StartPeriodic], StopPeriodic, (0, 0), (0..1, 0), (0, false));
     row("confirm_good", &sent, Confirm(0, 1), (0, 0), (of_0.clone(), 2), (0, false));
-    row("confirm_not_good", &sent, Confirm(0, 0), (0, 0), (of_0, 8), (0, false));
+    row("confirm_not_good", &sent, Confirm(0, 0), (0, 0), (of_0.clone(), 8), (0, false));
+    row("tick_quiet", &periodic, Tick, (0, 0), (0..1, 0), (0, false));
+    row("tick_postponed", &ticks(&waits, 2), Tick, (0, 1), (of_0.clone(), 2), (0, false));
+    row("tick_deadline", &ticks(&sent, 9), Tick, (0, 0), (of_0, 8), (0, false));
     if large {
         row("send_request_big", &[Start], Send(1, 5), (0, 1), (1..2, 0), (0, true));
         row("send_pending", &[Start], Send(2, 5), (0, 0), (2..3, 0), (0, true));
@@ -194,6 +204,8 @@ fn rows(large: bool) -> Vec<Row> {
         row("indication_8", &[Start], Indication(16, 1), (0, 0), (64..72, 1), (16, true));
         row("indication_8_queues", &[Start], Indication(17, 1), (0, 0), (72..80, 1), (17, true));
         row("indication_3", &[Start], Indication(31, 1), (0, 0), (119..122, 1), (31, true));
+        row("tick_8_periods", &ticks(&periodic, 4), Tick, (0, 0x6666), (0..1, 0), (0, false));
+        row("tick_16_timers", &ticks(&[Start], 89), Tick, (0, 0), (64..122, 4), (16, false));
         row("indication_not_good", &[Start], Indication(16, 0), (0, 0), (64..72, 4), (16, false));
     }
     rows
@@ -208,15 +220,15 @@ fn main() {
         return;
     }
     let r = rows(is_large).into_iter().find(|r| r.name == arguments[2]).expect("a row of the table");
-    let mut m = vec![0xA5u8; 8192];
-    let mut area = vec![0u8; 256];
+    let mut m = [0xA5u8; 8192];
+    let mut area = [0u8; 256];
     for call in r.before {
         assert_eq!(make(call, &t, &mut m, &mut area).number, 0, "a call before {}", r.name);
     }
-    let saved = m.clone();
+    let saved = m;
     make(r.call, &t, &mut m, &mut area);
     for _ in 0..REPETITIONS {
-        m.copy_from_slice(&saved);
+        m = saved;
         area.fill(0);
         let answer = measured(r.call, &t, &mut m, &mut area);
         assert_eq!((answer.number, answer.value), r.answer, "{}", r.name);

@@ -1,27 +1,43 @@
-//! The cases 1 to 3 and 6 to 11 of document 01, on the reference.
+//! The cases 1 to 11 of document 01, on the library and the reference.
 
 use crate::call::Call;
-use crate::records::{object_of, pack, unpack};
+use crate::library::Library;
 use crate::reference::Layer;
+use crate::stored;
 use crate::table::{ipdu, join, object, set_filter};
 
-/// The reference over one I-PDU and one object of it, started, with a request area.
+/// Both layers over one I-PDU and one object of it.
 struct Case {
-    layer: Layer,
+    table: Vec<u8>,
+    reference: Layer,
+    library: Library,
+    memory: [u8; 8192],
     area: [u8; 256],
 }
 
 impl Case {
     fn new(ipdu: [u8; 16], object: [u8; 32]) -> Case {
-        let layer = Layer::new(&join(&[ipdu], &[object]));
-        let mut case = Case { layer, area: [0xA5; 256] };
+        let table = join(&[ipdu], &[object]);
+        let (reference, library) = (Layer::new(&table), Library::new(&table));
+        Case { table, reference, library, memory: [0xA5; 8192], area: [0xA5; 256] }
+    }
+
+    fn started(ipdu: [u8; 16], object: [u8; 32]) -> Case {
+        let mut case = Case::new(ipdu, object);
         assert_eq!(case.ask(Call::Start), (0, 0));
         case
     }
 
+    /// The answer of both layers, which also agree in the area and in what is stored.
     fn ask(&mut self, call: Call) -> (u32, u32) {
-        let answer = self.layer.call(&call, 8192, true, &mut self.area);
-        (answer.number, answer.value)
+        let mut area = self.area;
+        let ours = self.reference.call(&call, 8192, true, &mut area);
+        let theirs = self.library.call(&self.table, &mut self.memory, &call, &mut self.area);
+        assert_eq!((theirs, self.area), (ours, area), "{call:?}");
+        if !call.refused_by(ours.number) {
+            assert_eq!(stored::difference(&self.reference, &self.memory), None, "{call:?}");
+        }
+        (ours.number, ours.value)
     }
 
     fn send(&mut self, value: u32) -> (u32, u32) {
@@ -32,12 +48,26 @@ impl Case {
         self.ask(Call::Receive { object: 0 })
     }
 
+    fn marks(&mut self) -> (u32, u32) {
+        self.ask(Call::Marks { object: 0 })
+    }
+
+    fn indicate(&mut self, bytes: &[u8]) -> (u32, u32) {
+        self.ask(Call::Indication { ipdu: 0, good: true, bytes: bytes.to_vec() })
+    }
+
     fn confirm(&mut self) -> (u32, u32) {
         self.ask(Call::Confirm { ipdu: 0, good: true })
     }
 
-    fn tick(&mut self) -> (u32, u32) {
-        self.ask(Call::Tick)
+    fn ticks<const N: usize>(&mut self) -> [(u32, u32); N] {
+        [(); N].map(|_| self.ask(Call::Tick))
+    }
+
+    /// The area: the frame with zeros to 8 in slot 0, and the other slots as they were.
+    fn has_frame(&self, frame: [u8; 4]) {
+        assert_eq!(self.area[..8], [frame, [0; 4]].concat());
+        assert_eq!(self.area[8..], [0xA5; 248]);
     }
 
     /// The numbers, from 1 on, of the sends that passed: of those that made a request, where
@@ -54,18 +84,27 @@ impl Case {
     }
 }
 
+const NO_REQUEST: (u32, u32) = (0, 0);
+const REQUEST: (u32, u32) = (0, 1);
+
 /// I-PDU 0, sent direct, of 4 bytes.
 fn direct(minimum_delay: u16, deadline: u16) -> [u8; 16] {
     ipdu(1, 4, 0, [0, 0, minimum_delay, deadline, 0])
 }
 
-/// A send object of I-PDU 0: 12 bits from bit 13 on, little, triggered.
+/// An object of I-PDU 0, triggered where it is sent.
+fn placed(kind: u8, start: u8, size: u8, order: u8) -> [u8; 32] {
+    object(&[kind, 0, 255, start, size, order])
+}
+
+/// A send object of I-PDU 0: 12 bits from bit 13 on, little.
 fn twelve_bits() -> [u8; 32] {
-    object(&[1, 0, 255, 13, 12])
+    placed(1, 13, 12, 0)
 }
 
 pub fn run() {
     bits();
+    room();
     filters();
     queue();
     delay();
@@ -73,18 +112,30 @@ pub fn run() {
     period();
 }
 
+/// Cases 1 to 3: the frame that a send asks for, and what is received of it.
 fn bits() {
-    let little = object_of(&twelve_bits()).bits;
-    let big = object_of(&object(&[1, 0, 255, 18, 12, 1])).bits;
-    for (places, value, known) in [
-        (&little, 2748, [0x00, 0x80, 0x57, 0x01]),
-        (&big, 2748, [0x00, 0x2A, 0xF0, 0x00]),
-        (&little, 6844, [0x00, 0x80, 0x57, 0x01]),
+    for (start, order, value, frame) in [
+        (13, 0, 2748, [0x00, 0x80, 0x57, 0x01]),
+        (18, 1, 2748, [0x00, 0x2A, 0xF0, 0x00]),
+        (13, 0, 6844, [0x00, 0x80, 0x57, 0x01]),
     ] {
-        let mut bytes = [0; 4];
-        pack(places, value, &mut bytes);
-        assert_eq!(bytes, known);
-        assert_eq!(unpack(places, &bytes), 2748);
+        let mut sender = Case::started(direct(0, 10), placed(1, start, 12, order));
+        assert_eq!(sender.send(value), REQUEST);
+        sender.has_frame(frame);
+        let mut receiver = Case::started(ipdu(2, 4, 0, [0; 5]), placed(2, start, 12, order));
+        assert_eq!(receiver.indicate(&frame), (0, 0));
+        assert_eq!(receiver.receive(), (0, 2748));
+    }
+}
+
+/// Cases 4 and 5: a start over a message that fits, and over one that is a bit too long.
+fn room() {
+    for (length, start, order, fits) in [(4, 18, 1, 22), (5, 13, 0, 27)] {
+        for (size, answer) in [(fits, (0, 0)), (fits + 1, (5, 0))] {
+            let ipdu = ipdu(1, length, 0, [0, 0, 0, 10, 0]);
+            let mut case = Case::new(ipdu, placed(1, start, size, order));
+            assert_eq!(case.ask(Call::Start), answer);
+        }
     }
 }
 
@@ -92,60 +143,73 @@ fn bits() {
 fn filters() {
     let mut differs = twelve_bits();
     set_filter(&mut differs, 5, [0, 0, 0]);
-    let mut case = Case::new(direct(0, 10), differs);
+    let mut case = Case::started(direct(0, 10), differs);
     assert_eq!(case.passed(&[0, 5, 5]), [2]);
-    assert_eq!(case.area[..9], [0x00, 0xA0, 0x00, 0x00, 0, 0, 0, 0, 0xA5]);
+    case.has_frame([0x00, 0xA0, 0x00, 0x00]);
     assert_eq!(case.passed(&[0]), [1]);
-    assert_eq!(case.area[..9], [0x00, 0x00, 0x00, 0x00, 0, 0, 0, 0, 0xA5]);
+    case.has_frame([0x00, 0x00, 0x00, 0x00]);
 
     let mut one_in_three = twelve_bits();
     set_filter(&mut one_in_three, 14, [0, 3, 1]);
-    let mut case = Case::new(direct(0, 10), one_in_three);
-    assert_eq!(case.passed(&[9; 6]), [2, 5]);
+    let mut case = Case::started(direct(0, 10), one_in_three);
+    assert_eq!(case.passed(&[1, 2, 3, 4, 5, 6]), [2, 5]);
+    case.has_frame([0x00, 0xA0, 0x00, 0x00]);
 }
 
 /// Case 8.
 fn queue() {
     let object = object(&[2, 0, 255, 0, 8, 0, 0, 2]);
-    let mut case = Case::new(ipdu(2, 1, 0, [0; 5]), object);
+    let mut case = Case::started(ipdu(2, 1, 0, [0; 5]), object);
     for value in [7, 8, 9] {
-        let arrival = Call::Indication { ipdu: 0, good: true, bytes: vec![value] };
-        assert_eq!(case.ask(arrival), (0, 0));
+        assert_eq!(case.indicate(&[value]), (0, 0));
     }
     assert_eq!(case.ask(Call::Status { object: 0 }), (3, 0));
     assert_eq!(case.receive(), (3, 7));
     assert_eq!(case.ask(Call::Status { object: 0 }), (0, 0));
     assert_eq!(case.receive(), (0, 8));
     assert_eq!(case.receive(), (4, 0));
-    assert_eq!(case.ask(Call::Marks { object: 0 }), (0, 1));
+    assert_eq!(case.marks(), (0, 1));
 }
 
 /// Case 9.
 fn delay() {
-    let mut case = Case::new(direct(3, 10), twelve_bits());
-    assert_eq!(case.send(1), (0, 1));
+    let mut case = Case::started(direct(3, 10), twelve_bits());
+    assert_eq!(case.send(1), REQUEST);
+    case.has_frame([0x00, 0x20, 0x00, 0x00]);
     assert_eq!(case.confirm(), (0, 0));
-    assert_eq!(case.send(2), (0, 0));
-    assert_eq!([case.tick(), case.tick(), case.tick()], [(0, 0), (0, 0), (0, 1)]);
-    assert_eq!(case.area[..4], [0x00, 0x40, 0x00, 0x00]);
-    assert_eq!(case.ask(Call::Marks { object: 0 }), (0, 2));
+    assert_eq!(case.send(2), NO_REQUEST);
+    assert_eq!(case.ticks(), [NO_REQUEST, NO_REQUEST]);
+    case.has_frame([0x00, 0x20, 0x00, 0x00]);
+    assert_eq!(case.ticks(), [REQUEST, NO_REQUEST]);
+    case.has_frame([0x00, 0x40, 0x00, 0x00]);
+    assert_eq!(case.marks(), (0, 2));
 }
 
 /// Case 10.
 fn deadline() {
-    let mut case = Case::new(direct(0, 2), twelve_bits());
-    assert_eq!(case.send(1), (0, 1));
-    assert_eq!(case.send(2), (0, 0));
-    assert_eq!([case.tick(), case.tick()], [(0, 0), (0, 1)]);
-    assert_eq!(case.area[..4], [0x00, 0x40, 0x00, 0x00]);
-    assert_eq!(case.ask(Call::Marks { object: 0 }), (0, 8));
+    let mut case = Case::started(direct(0, 2), twelve_bits());
+    assert_eq!(case.send(1), REQUEST);
+    assert_eq!(case.send(2), NO_REQUEST);
+    assert_eq!(case.ticks(), [NO_REQUEST]);
+    case.has_frame([0x00, 0x20, 0x00, 0x00]);
+    assert_eq!(case.marks(), (0, 0));
+    assert_eq!(case.ticks(), [REQUEST]);
+    case.has_frame([0x00, 0x40, 0x00, 0x00]);
+    assert_eq!(case.marks(), (0, 8));
 }
 
-/// Case 11.
+/// Case 11, with no confirm: in mode 1 a request may go while one is open.
 fn period() {
-    let mut case = Case::new(ipdu(1, 4, 1, [4, 2, 0, 10, 0]), twelve_bits());
-    assert_eq!(case.tick(), (0, 0));
+    let mut case = Case::started(ipdu(1, 4, 1, [4, 2, 0, 20, 0]), twelve_bits());
+    assert_eq!(case.ticks(), [NO_REQUEST; 3]);
     assert_eq!(case.ask(Call::StartPeriodic), (0, 0));
-    let requested: Vec<u32> = (1..=12).filter(|_| case.tick() == (0, 1)).collect();
-    assert_eq!(requested, [2, 6, 10]);
+    for tick in 1..=13 {
+        assert_eq!(case.send(tick), NO_REQUEST);
+        let due = [2, 6, 10].contains(&tick);
+        assert_eq!(case.ticks(), [if due { REQUEST } else { NO_REQUEST }], "tick {tick}");
+        if due {
+            case.has_frame([0x00, (tick << 5) as u8, (tick >> 3) as u8, 0x00]);
+        }
+    }
+    assert_eq!(case.marks(), (0, 0));
 }

@@ -35,7 +35,6 @@ mod linked {
         pub fn birnenschloss_confirm(
             t: In, tn: N, m: Out, mn: N, ipdu: u32, good: u32,
         ) -> Answer;
-        #[cfg(tick)]
         pub fn birnenschloss_tick(t: In, tn: N, m: Out, mn: N, area: Out, an: N) -> Answer;
     }
 }
@@ -80,10 +79,7 @@ impl Library {
                 Call::Confirm { ipdu, good } => {
                     birnenschloss_confirm(t, tn, m, mn, ipdu, good as u32)
                 }
-                #[cfg(tick)]
                 Call::Tick => birnenschloss_tick(t, tn, m, mn, a, an),
-                #[cfg(not(tick))]
-                Call::Tick => unreachable!("built without tick"),
             }
         }
     }

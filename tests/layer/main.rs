@@ -1,13 +1,14 @@
 //! The library beside the reference, on random lists of calls over right and damaged tables.
 //! After every call the answer, the request area and, by the list in docs/MEMORY.md, the working
 //! memory must be as the reference says. Arguments, both optional: the seed, the least number
-//! of calls. `--cfg tick` is for a library that has tick; with `--cfg own` a second copy of the
-//! reference stands in for the library, to try the test alone.
+//! of calls. With `--cfg own` a second copy of the reference stands in for the library, to try
+//! the test alone.
 
 mod call;
 mod cases;
 mod library;
 mod make;
+mod met;
 mod ranges;
 mod records;
 mod reference;
@@ -18,31 +19,17 @@ mod table;
 
 use call::Call;
 use library::Library;
+use met::{Event, Met};
 use reference::Layer;
 use table::{Answer, Run};
-
-/// What the test has met, so that a reader sees how far it reaches.
-#[derive(Default)]
-struct Counts {
-    right_tables: u64,
-    wrong_tables: u64,
-    calls: u64,
-    /// How often each number was answered.
-    numbers: [u64; 9],
-    /// How often each call was accepted, in the order of document 01.
-    accepted: [u64; 13],
-    requests: u64,
-    lost: u64,
-    judged: [[u64; 2]; 15],
-    /// Calls over changed memories: in their ranges, and not.
-    in_range: u64,
-    out_of_range: u64,
-}
 
 struct Test {
     seed: u64,
     run: Run,
-    counts: Counts,
+    right_tables: u64,
+    wrong_tables: u64,
+    calls: u64,
+    met: Met,
     last_memory: Vec<u8>,
 }
 
@@ -65,7 +52,7 @@ impl List<'_> {
     }
 
     fn differ(&self, test: &Test, call: &Call, what: &str) -> ! {
-        let at = format!("seed {}, call {}", test.seed, test.counts.calls);
+        let at = format!("seed {}, call {}", test.seed, test.calls);
         println!("layer: {at}: {call:?}: {what}");
         let hex: Vec<String> = self.table.iter().map(|b| format!("{b:02X}")).collect();
         println!("table, {} bytes: {}", self.table.len(), hex.join(" "));
@@ -76,6 +63,7 @@ impl List<'_> {
     /// The reference is told that the memory is in range: after a start it always is.
     fn compare(&mut self, test: &mut Test, call: &Call, m: usize, a: usize) {
         let (memory, mut area) = (self.memory.clone(), self.area.clone());
+        let ipdus = self.reference.ipdus.clone();
         let ours = self.reference.call(call, m, true, &mut area[..a]);
         let lent = (&mut self.memory[..m], &mut self.area[..a]);
         let theirs = self.library.call(self.table, lent.0, call, lent.1);
@@ -93,7 +81,12 @@ impl List<'_> {
         if let (Call::Start, false) = (call, refused) {
             self.start_again(test, call);
         }
-        self.count(test, call, ours);
+        test.calls += 1;
+        test.met.note_answer(call, ours, &ipdus, &self.reference.ipdus);
+        if (ours.number, m < 8192) == (6, false) {
+            let tick = matches!(call, Call::Tick);
+            test.met.note(if tick { Event::ShortAreaTick } else { Event::ShortAreaSend }, 1);
+        }
     }
 
     /// The memory after a call, with `before` as it was.
@@ -167,23 +160,8 @@ impl List<'_> {
         if memory[8192..] != memory_before[8192..] {
             self.differ(test, call, "bytes from 8,192 on were changed");
         }
-        if in_range {
-            test.counts.in_range += 1;
-        } else {
-            test.counts.out_of_range += 1;
-        }
-    }
-
-    fn count(&self, test: &mut Test, call: &Call, answer: Answer) {
-        let counts = &mut test.counts;
-        counts.calls += 1;
-        counts.numbers[answer.number as usize] += 1;
-        if !call.refused_by(answer.number) {
-            counts.accepted[call.kind()] += 1;
-            if call.takes_area() {
-                counts.requests += answer.value.count_ones() as u64;
-            }
-        }
+        let event = if in_range { Event::ChangedInRange } else { Event::ChangedOutOfRange };
+        test.met.note(event, 1);
     }
 
     /// A call, now and then with too little memory, too small an area, other contents of the
@@ -214,7 +192,7 @@ impl List<'_> {
 
 impl Test {
     fn right_table(&mut self, table: &[u8]) {
-        self.counts.right_tables += 1;
+        self.right_tables += 1;
         self.run.compare(table);
         let (memory, area) = self.lent();
         let (m, a) = (memory.len(), area.len());
@@ -230,10 +208,8 @@ impl Test {
             let call = make::call(&mut self.run, &list.reference, style);
             list.step(self, &call);
         }
-        self.counts.lost += list.reference.lost;
-        for (sum, part) in self.counts.judged.iter_mut().zip(list.reference.judged) {
-            *sum = [sum[0] + part[0], sum[1] + part[1]];
-        }
+        self.met.note(Event::ValueLost, list.reference.lost);
+        self.met.note_judged(&list.reference.judged);
         self.last_memory = list.memory;
     }
 
@@ -251,7 +227,7 @@ impl Test {
     /// With a wrong table every call, start too, answers 5, whatever else is wrong.
     fn wrong_table(&mut self, right: &[u8]) {
         let (table, layer) = (make::wrong(&mut self.run, right), Layer::new(right));
-        self.counts.wrong_tables += 1;
+        self.wrong_tables += 1;
         self.run.compare(&table);
         let (memory, area) = self.lent();
         let mut list = List::new(&table, memory, area);
@@ -274,50 +250,24 @@ impl Test {
     }
 }
 
-/// The names of what was never met.
-fn missing(counts: &Counts) -> Vec<String> {
-    let mut list = Vec::new();
-    for (number, times) in counts.numbers.iter().enumerate() {
-        if *times == 0 {
-            list.push(format!("answer {number}"));
-        }
-    }
-    for (kind, times) in counts.accepted.iter().enumerate() {
-        if *times == 0 && (kind < 12 || cfg!(tick)) {
-            list.push(format!("call {kind}"));
-        }
-    }
-    for (filter, [dropped, passed]) in counts.judged.iter().enumerate() {
-        if (*dropped == 0 && filter != 0) || (*passed == 0 && filter != 1) {
-            list.push(format!("filter {filter}: {dropped} dropped, {passed} passed"));
-        }
-    }
-    let others = [counts.requests, counts.lost, counts.in_range, counts.out_of_range];
-    if others.contains(&0) {
-        list.push("a request, a lost value, or a changed memory".to_string());
-    }
-    list
-}
-
 fn main() {
     let mut arguments = std::env::args().skip(1).map(|a| a.parse::<u64>().expect("a number"));
     let (seed, least) = (arguments.next().unwrap_or(1), arguments.next().unwrap_or(60_000));
     cases::run();
     let random = seed.wrapping_mul(0x9E37_79B9_7F4A_7C15) | 1;
     let run = Run { random, counts: [0; 4] };
-    let last_memory = vec![0; 8192];
-    let mut test = Test { seed, run, counts: Counts::default(), last_memory };
-    while test.counts.calls < least {
+    let last_memory = [0xA5; 8192].to_vec();
+    let (right_tables, wrong_tables, calls, met) = (0, 0, 0, Met::default());
+    let mut test = Test { seed, run, right_tables, wrong_tables, calls, met, last_memory };
+    while test.calls < least {
         let table = make::right(&mut test.run);
         test.right_table(&table);
         test.wrong_table(&table);
     }
-    let c = &test.counts;
-    print!("layer: {} right and {} wrong tables, ", c.right_tables, c.wrong_tables);
-    print!("{} calls agree (answers 0 to 8: {:?}); ", c.calls, c.numbers);
-    print!("{} requests, {} values lost by full queues, ", c.requests, c.lost);
-    println!("{} changed memories in range, {} out of it", c.in_range, c.out_of_range);
-    let missing = missing(c);
+    print!("layer: {} right and {} wrong tables, ", test.right_tables, test.wrong_tables);
+    println!("{} calls agree", test.calls);
+    test.met.print();
+    let missing = test.met.missing();
     if !missing.is_empty() {
         println!("layer: never met: {}", missing.join(", "));
         std::process::exit(1);

@@ -113,9 +113,9 @@ pub fn wrong(run: &mut Run, right: &[u8]) -> Vec<u8> {
 
 /// A memory as it may be before a start: at least 8,192 bytes, holding anything.
 pub fn memory(run: &mut Run) -> Vec<u8> {
-    let length = 8192 + run.pick(&[0, 0, 1, 8, 100]);
-    let one = run.pick(&[0, 1, 0xA5, 0xFF]);
-    let mut memory = vec![one; length];
+    let one = run.pick(&[1, 0x5A, 0xA5, 0xFF]);
+    let mut memory = [one; 8192].to_vec();
+    memory.resize(8192 + run.pick(&[0, 0, 1, 8, 100]), one);
     if run.below(3) > 0 {
         scramble(run, &mut memory);
     }
@@ -161,8 +161,7 @@ pub fn call(run: &mut Run, layer: &Layer, style: usize) -> Call {
     }
     let mut weights = STYLES[style % STYLES.len()];
     make_hopeless_rare(layer, &mut weights);
-    let kinds = if cfg!(tick) { 13 } else { 12 };
-    let mut left = run.below(weights[..kinds].iter().sum());
+    let mut left = run.below(weights.iter().sum());
     let mut kind = 0;
     while left >= weights[kind] {
         left -= weights[kind];
@@ -305,10 +304,7 @@ fn confirm(run: &mut Run, layer: &Layer) -> Call {
     let only_open = run.below(4) > 0;
     let wanted = |k: usize| layer.ipdus[k].sends && (layer.ipdus[k].open || !only_open);
     let ipdu = number(run, layer.ipdus.len(), wanted);
-    // Without tick a delay never ends.
-    let delays = layer.ipdus.get(ipdu as usize).is_some_and(|p| p.minimum_delay > 0);
-    let good = if delays && !cfg!(tick) { run.below(12) == 0 } else { run.below(3) > 0 };
-    Call::Confirm { ipdu, good }
+    Call::Confirm { ipdu, good: run.below(3) > 0 }
 }
 
 // ---- Many filterings of one object, so that its occurrence goes past 255 ----

@@ -39,8 +39,8 @@ pub(crate) const DISPLAY: ObjectNumber = ObjectNumber(6);
 pub(crate) const UNKNOWN: ObjectNumber = ObjectNumber(7);
 
 // Sixteen bytes to a line. Line 1 is the header: 3 I-PDUs, 7 objects, offsets 16 and 64, 288 bytes in all. A line for each
-// I-PDU follows: humidity, 4 bytes, direct, minimum delay 3, deadline 10; doors, 3 bytes, mixed, period 50, offset 5, no
-// minimum delay, deadline 20; case, 4 bytes, deadline 100, first deadline 200. Then two lines for each object:
+// I-PDU follows: humidity, 4 bytes, direct, minimum delay 3, deadline 5; doors, 3 bytes, mixed, period 4, offset 2, no
+// minimum delay, deadline 10; case, 4 bytes, deadline 5, first deadline 8. Then two lines for each object:
 // front humidity, bit 0, 10 bits, little, triggered, filter 5, initial 450;
 // rear humidity, bit 24, 10 bits, big, triggered, filter 5, initial 450;
 // door, bit 7, 1 bit, triggered, filter 0, initial 0;
@@ -50,9 +50,9 @@ pub(crate) const UNKNOWN: ObjectNumber = ObjectNumber(7);
 // display, of sending object 0, filter 0, initial 450.
 pub(crate) const TABLE: [u8; 288] = *b"\
     \x03\x00\x07\x00\x10\x00\x40\x00\x20\x01\x00\x00\x00\x00\x00\x00\
-    \x01\x04\x00\x00\x00\x00\x00\x00\x03\x00\x0a\x00\x00\x00\x00\x00\
-    \x01\x03\x02\x00\x32\x00\x05\x00\x00\x00\x14\x00\x00\x00\x00\x00\
-    \x02\x04\x00\x00\x00\x00\x00\x00\x00\x00\x64\x00\xc8\x00\x00\x00\
+    \x01\x04\x00\x00\x00\x00\x00\x00\x03\x00\x05\x00\x00\x00\x00\x00\
+    \x01\x03\x02\x00\x04\x00\x02\x00\x00\x00\x0a\x00\x00\x00\x00\x00\
+    \x02\x04\x00\x00\x00\x00\x00\x00\x00\x00\x05\x00\x08\x00\x00\x00\
     \x01\x00\xff\x00\x0a\x00\x00\x00\x05\x00\x00\x00\xc2\x01\x00\x00\
     \x00\x00\x00\x00\x00\x00\x00\x00\x00\x00\x00\x00\x00\x00\x00\x00\
     \x01\x00\xff\x18\x0a\x01\x00\x00\x05\x00\x00\x00\xc2\x01\x00\x00\

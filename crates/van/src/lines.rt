@@ -1,5 +1,6 @@
 // A function for each call: it makes the call and prints its line. A line names the call and its arguments, then the answer's
-// number, and after a 0 or a 3 the value; a send's value is the word of the I-PDUs requested, and their frames follow.
+// number, and after a 0 or a 3 the value; a send's or a tick's value is the word of the I-PDUs requested, and their frames
+// follow. Ticks in a row that request nothing have one line.
 use crate::climate::DOORS_LENGTH;
 use crate::climate::HUMIDITY_LENGTH;
 use layer::AREA_SIZE;
@@ -7,7 +8,7 @@ use layer::Answer;
 use libc::STDOUT_FILENO;
 use table::IpduNumber;
 use table::ObjectNumber;
-ghost use Prim.Native.Nat.{_≤_, _<_};
+ghost use Prim.Native.Nat.{_+_, _^_, _≤_, _<_};
 ghost use lib.ListN.{length};
 
 // Bytes of an I-PDU's slot in the request area.
@@ -34,9 +35,7 @@ pub(crate) fn send(
     print_object(number);
     print_number(b" ", value);
     let answer = layer::send(t, m, area, number, value);
-    print_result(answer, b" word ");
-    print_frames(layer::value_of(answer), area);
-    print(b"\n");
+    print_requests(answer, area);
 }
 
 pub(crate) fn initialise(t: &[u8], m: &mut [u8], number: ObjectNumber, value: u32) {
@@ -96,6 +95,14 @@ pub(crate) fn confirm(t: &[u8], m: &mut [u8], number: IpduNumber, good: bool) {
     print_answer(layer::confirm(t, m, number, good));
 }
 
+pub(crate) fn ticks(t: &[u8], m: &mut [u8], area: &mut [u8; AREA_SIZE], count: u32) {
+    let mut quiet = 0;
+    for i in 0..count {
+        quiet = tick(t, m, area, quiet);
+    }
+    print_quiet(quiet);
+}
+
 // Prints a line that is no call's.
 pub(crate) fn heading(words: &[u8]) {
     print(words);
@@ -134,7 +141,50 @@ fn print_good(good: bool) {
     }
 }
 
-// The end of a line: the answer of a call other than send.
+// A tick after a number of quiet ones that have no line yet; it gives their number after it.
+fn tick(t: &[u8], m: &mut [u8], area: &mut [u8; AREA_SIZE], quiet: u32) -> u32
+    requires { ⌜ quiet + 1 < 2 ^ 32 ⌝ }
+    ensures { λ r. ⌜ r ≤ quiet + 1 ⌝ }
+{
+    let answer = layer::tick(t, m, area);
+    if is_quiet(answer) {
+        return quiet + 1;
+    }
+    print_quiet(quiet);
+    print(b"tick");
+    print_requests(answer, area);
+    0
+}
+
+// Whether a tick was done and requested nothing.
+fn is_quiet(answer: Answer) -> bool {
+    match answer {
+        Answer::Done(word) => word == 0,
+        _ => false,
+    }
+}
+
+// The line of so many quiet ticks; none for none.
+fn print_quiet(count: u32) {
+    if count == 0 {
+        return;
+    }
+    print(b"tick");
+    if count > 1 {
+        print_number(b" ", count);
+        print(b" times");
+    }
+    print(b": 0 word 0\n");
+}
+
+// The end of a line: the answer of a send or a tick, with the frames.
+fn print_requests(answer: Answer, area: &[u8; AREA_SIZE]) {
+    print_result(answer, b" word ");
+    print_frames(layer::value_of(answer), area);
+    print(b"\n");
+}
+
+// The end of a line: the answer of another call.
 fn print_answer(answer: Answer) {
     print_result(answer, b" value ");
     print(b"\n");
