@@ -158,8 +158,7 @@ module _ (t : List ℕ) (c : Counts) (accepted : check t ≡ Accepted c) (bt : B
 
   pub list-kept : (calls : List Call) → AllTyped calls → (b : Book) (m : List ℕ) → Follows t c b m → AllKept t c b calls m
   list-kept [] y b m f = tt
-  list-kept (call ∷ calls) y b m f =
-      (
-        call-kept b m f call (y .0),
-        list-kept calls (y .1) (advance t c b call) (step t call m .memory) (step-follows t c accepted bt b m f call (y .0)),
-      )
+  list-kept (call ∷ calls) y b m f = (
+    call-kept b m f call (y .0),
+    list-kept calls (y .1) (advance t c b call) (step t call m .memory) (step-follows t c accepted bt b m f call (y .0)),
+  )

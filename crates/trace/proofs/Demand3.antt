@@ -27,8 +27,7 @@ demand-3 t bt xs ys p q m n em en =
     let z = start-accepted t n en in
     let f = start-follows t (counts t) (a .table) bt m (a .long) in
     let g = start-follows t (counts t) (a .table) bt n (z .long) in
-    let w = start-twin t (counts t) (a .table) bt m n (a .long) (z .long) in
-    (
+    let w = start-twin t (counts t) (a .table) bt m n (a .long) (z .long) in (
       (first-kept t m em, list-kept t (counts t) (a .table) bt xs p (opened t (counts t)) (step t start m .memory) f),
       λ alike. (
         record {

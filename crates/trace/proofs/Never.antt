@@ -159,11 +159,10 @@ Never6 t (call ∷ calls) m = (Fits call → numberOf (step t call m .answer) �
 module _ (t : List ℕ) (c : Counts) (accepted : check t ≡ Accepted c) (bt : Bytes t) where
   after-start : (calls : List Call) → AllTyped calls → (b : Book) (m : List ℕ) → Follows t c b m → Never6 t calls m
   after-start [] y b m f = tt
-  after-start (call ∷ calls) y b m f =
-      (
-        step-not-6 t c accepted bt b m f call,
-        after-start calls (y .1) (advance t c b call) (step t call m .memory) (step-follows t c accepted bt b m f call (y .0)),
-      )
+  after-start (call ∷ calls) y b m f = (
+    step-not-6 t c accepted bt b m f call,
+    after-start calls (y .1) (advance t c b call) (step t call m .memory) (step-follows t c accepted bt b m f call (y .0)),
+  )
 
 -- every list of calls that begins with an accepted start
 pub never-6 : (t : List ℕ) → Bytes t → (calls : List Call) → AllTyped calls → (m : List ℕ) → done (step t start m) ≡ true

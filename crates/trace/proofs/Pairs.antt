@@ -225,12 +225,11 @@ module _ (t : List ℕ) (c : Counts) (accepted : check t ≡ Accepted c) (bt : B
   lists-same [] (y ∷ ys) p q b m n f g e a = a
   lists-same (x ∷ xs) [] p q b m n f g e a = a
   lists-same (x ∷ xs) (y ∷ ys) p q b m n f g e a =
-      let s = alike-step b m n f g e x y (p .0) (q .0) (a .0) in
-      (
+      let s = alike-step b m n f g e x y (p .0) (q .0) (a .0) in (
         same-answer b m n f g e x y (p .0) (q .0) s,
         lists-same xs ys (p .1) (q .1) (advance t c b x) (step t x m .memory) (step t y n .memory)
-        (step-follows t c accepted bt b m f x (p .0))
-        (subst (λ (d : Book). Follows t c d (step t y n .memory)) (sym (s .book)) (step-follows t c accepted bt b n g y (q .0)))
-        (s .twin .memory)
-        (subst (λ (d : Book). AllAlike t c (advance t c b x) d xs ys) (sym (s .book)) (a .1)),
+            (step-follows t c accepted bt b m f x (p .0))
+            (subst (λ (d : Book). Follows t c d (step t y n .memory)) (sym (s .book)) (step-follows t c accepted bt b n g y (q .0)))
+            (s .twin .memory)
+            (subst (λ (d : Book). AllAlike t c (advance t c b x) d xs ys) (sym (s .book)) (a .1)),
       )

@@ -107,13 +107,13 @@ module _ (t : List ℕ) (c : Counts) where
   unfolding sendIn sendOf request
   send-area i v area other m = (
     pick-view (λ (o : Outcome). o .answer) (isObject t c 1 i) _ _ _ _
-    (pick-view (λ (o : Outcome). o .answer) (lets (object t c i) v (objectState (deliverInside t c i v m) i)) _ _ _ _
-    (pick-view (λ (o : Outcome). o .answer) (wants t (object t c i)) _ _ _ _ refl refl) refl)
-    refl,
+        (pick-view (λ (o : Outcome). o .answer) (lets (object t c i) v (objectState (deliverInside t c i v m) i)) _ _ _ _
+        (pick-view (λ (o : Outcome). o .answer) (wants t (object t c i)) _ _ _ _ refl refl) refl)
+        refl,
     pick-view (λ (o : Outcome). o .memory) (isObject t c 1 i) _ _ _ _
-    (pick-view (λ (o : Outcome). o .memory) (lets (object t c i) v (objectState (deliverInside t c i v m) i)) _ _ _ _
-    (pick-view (λ (o : Outcome). o .memory) (wants t (object t c i)) _ _ _ _ refl refl) refl)
-    refl,
+        (pick-view (λ (o : Outcome). o .memory) (lets (object t c i) v (objectState (deliverInside t c i v m) i)) _ _ _ _
+        (pick-view (λ (o : Outcome). o .memory) (wants t (object t c i)) _ _ _ _ refl refl) refl)
+        refl,
   )
 
   -- ---- a dropped value, with no receiver inside

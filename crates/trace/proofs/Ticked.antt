@@ -141,8 +141,7 @@ module _ (t : List ℕ) (c : Counts) where
         let x : Ticked = ticks t c n area m in
         let y : Ticked = ticks t c n other m in
         let same = ipdu-area n (ticks t c n area m .area) (ticks t c n other m .area) (ticks t c n area m .memory) in
-        let o : List ℕ → Outcome = tickIpdu t c n (ticks t c n other m .area) in
-        (
+        let o : List ℕ → Outcome = tickIpdu t c n (ticks t c n other m .area) in (
           sum (e .0) (ap (λ (a : Rattle.layer.specs.declared.Answer.Answer). valueOf a) (same .0) ∙ ap (λ (l : List ℕ). valueOf (tickIpdu t c n (ticks t c n other m .area) l .answer)) (e .1)),
           same .1 ∙ ap (λ (l : List ℕ). tickIpdu t c n (ticks t c n other m .area) l .memory) (e .1),
         )
