@@ -10,7 +10,7 @@ use Rattle.bits.specs.declared.Order.the-variants.{Little, Big}
 use Rattle.bits.specs.Bits.{room, packed, unpacked}
 use Rattle.state.specs.Layout.{memorySize}
 use Rattle.layer.specs.Answers.{Outcome, numberOf, valueOf}
-use Rattle.layer.specs.Step.{Call, start, send, receive, marks, startPeriodic, indication, confirm, tick, areaSize, run}
+use Rattle.layer.specs.Step.{Call, start, send, receive, status, marks, clearMarks, startPeriodic, indication, confirm, tick, areaSize, run}
 
 -- a call and the number and value that it answers
 pub record Line : Type 0 where
@@ -104,7 +104,8 @@ case7 =
     ∷ line (send 0 6 area) 0 0
     ∷ [])
 
--- 8: depth 2, arrivals 7, 8, 9 (from bit 13 on): receive gives 7 with 3, then 8 with 0, then 4
+-- 8: depth 2, arrivals 7, 8, 9 (from bit 13 on): receive gives 7 with 3, then 8 with 0, then 4. Before that status answers 3, and
+-- clear marks clears the mark of arrival and not the overflow.
 abbrev pub case8 : Case
 case8 =
     answers (tableOf receiveIpdu (receiveObject 2))
@@ -112,6 +113,10 @@ case8 =
     ∷ line (indication 0 true (0 ∷ 224 ∷ 0 ∷ 0 ∷ [])) 0 0
     ∷ line (indication 0 true (0 ∷ 0 ∷ 1 ∷ 0 ∷ [])) 0 0
     ∷ line (indication 0 true (0 ∷ 32 ∷ 1 ∷ 0 ∷ [])) 0 0
+    ∷ line (status 0) 3 0
+    ∷ line (marks 0) 0 1
+    ∷ line (clearMarks 0) 0 0
+    ∷ line (marks 0) 0 0
     ∷ line (receive 0) 3 7
     ∷ line (receive 0) 0 8
     ∷ line (receive 0) 4 0
