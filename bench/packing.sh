@@ -3,11 +3,11 @@
 # packing.rs; and the number of jumps in each compiled function. Needs rt, rustc, valgrind and objdump.
 set -euo pipefail
 cd "$(dirname "$0")/.."
-rt staticlib exports > /dev/null
+rt staticlib slots > /dev/null
 out=$(mktemp -d)
 trap 'rm -rf "$out"' EXIT
 rustc -C opt-level=3 -C panic=abort --edition 2021 -o "$out/packing" bench/packing.rs \
-    -L target/staticlib -l static=exports
+    -L target/staticlib -l static=slots
 for order in 0 1; do "$out/packing" same all $order; done
 
 instructions() { # WHO WHAT ORDER SYMBOL

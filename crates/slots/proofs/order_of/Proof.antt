@@ -1,9 +1,9 @@
--- `exports::order_of` meets its contract.
+-- `slots::order_of` meets its contract.
 -- Assumes nothing.
 use borrow.Author.Tests.{eq-eqb, ne-eqb}
-use Rattle.exports.specs.Orders.{orderOf}
-use Rattle.exports.proofs.order_of.Statement.{statement}
-use Rattle.exports.proofs.order_of.Tie as tie
+use Rattle.slots.specs.Orders.{orderOf}
+use Rattle.slots.proofs.order_of.Statement.{statement}
+use Rattle.slots.proofs.order_of.Tie as tie
 
 returns : tie.Need-returns
 unfolding orderOf
