@@ -15,14 +15,14 @@
  *   values        A message is an unsigned number of 1 to 32 bits, and every DataRef points to a
  *                 uint32_t, whatever the message's size. The compiler reports other pointers.
  *   status        Errors are checked as under Extended, always. E_COM_ID is 1, E_COM_LENGTH 2,
- *                 E_COM_LIMIT 3, E_COM_NOMSG 4; an operating system has codes of its own with these
- *                 numbers, so compare a status of COM with COM's names alone. What the standard
- *                 leaves to the vendor is 5 to 8, as E_COM_SYS_ below.
+ *                 E_COM_LIMIT 3, E_COM_NOMSG 4; an operating system may have codes of its own with
+ *                 these numbers, so compare a status of COM with COM's names alone. What the
+ *                 standard leaves to the vendor is 5 to 8, as E_COM_SYS_ below.
  *   not started   Before the first StartCOM a service answers E_COM_SYS_MEMORY, after StopCOM
  *                 E_COM_SYS_STOPPED, a second StopCOM too. A wrong table is always answered
  *                 E_COM_SYS_TABLE.
  *   modes         There is one configuration. StartCOM takes any mode, GetCOMApplicationMode gives
- *                 it back (0 before the first StartCOM); no mode is answered E_COM_ID.
+ *                 it back (0 before the first StartCOM). StartCOM never answers E_COM_ID.
  *   StartCOM      Starts again from the table, also with no StopCOM before. If StartCOMExtension
  *                 fails, StartCOM answers its status, and COM is started all the same.
  *   StopCOM       Halts nothing by itself: periods, deadlines and values stay in memory, but no

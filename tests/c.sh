@@ -21,7 +21,7 @@ for language in c99 cxx; do
     for example in examples/*.c; do
         name=$(basename "$example" .c)
         "$language" "$example" -x none "$archive" -o "$out/$name"
-        "$out/$name" > "$out/stdout"
+        "$out/$name" > "$out/stdout" || { echo "c.sh: $example ended with $?, $language" >&2; exit 1; }
         diff "examples/$name.stdout" "$out/stdout" || { echo "c.sh: $example printed otherwise, $language" >&2; exit 1; }
     done
     "$language" tests/c/boundary.c -x none "$archive" -o "$out/boundary"
@@ -29,4 +29,4 @@ for language in c99 cxx; do
     boundary=$("$out/boundary") || { echo "$boundary" "($language)" >&2; exit 1; }
     osek=$("$out/osek") || { echo "$osek" "($language)" >&2; exit 1; }
 done
-echo "c.sh: two headers and two examples in C99 and C++; $boundary; $osek"
+echo "c.sh: headers and examples as they should be in C99 and C++; $boundary; $osek"
