@@ -1,0 +1,178 @@
+/*
+ * Birnenschloss: an interaction layer after OSEK COM 3.0.3, for callers in C99 and C++.
+ *
+ * What is lent. Every call works on bytes of the caller, given by their start and their number:
+ *   table    says which I-PDUs and message objects there are (docs/TABLE.md); only read
+ *   memory   working memory, at least 8192 bytes; the first 8192 are used (docs/MEMORY.md)
+ *   area     request area of send and tick, at least 256 bytes; slot k, 8 bytes from byte 8 * k on,
+ *            gets the bytes of I-PDU k, with zeros up to 8, when the I-PDU is requested
+ *   bytes    the bytes of an indication; only read
+ * Nothing needs an alignment. Nothing is kept between calls but in the lent memory, and no pointer
+ * is kept at all: table and memory may move, if their bytes move with them.
+ *
+ * Threads. There is no global state: calls over different memories may run at once. Two calls over
+ * one memory must not, nor over one area: let a lock or an interrupt mask see to it.
+ *
+ * Answers. A call answers a number and a value. A number other than 0 refuses the call: the value
+ * is 0 and all lent bytes stay as they were. Two exceptions: a receive that answers E_COM_LIMIT
+ * gives a value, and birnenschloss_check gives a place with its 5. Of several reasons to refuse,
+ * the first in the order 5, 6, 7, 1, 2, 8, 4, 3 is answered.
+ *
+ * At the boundary. Any numbers and any contents of the lent bytes are answered, and so are bytes
+ * that are too few: a table of 0 or 1 bytes by 5, a memory or an area of 0 or 1 bytes by 6. Left to
+ * the caller, and undefined otherwise:
+ *   - no pointer is null, also where the length is 0: for no bytes, any other pointer will do
+ *   - so many bytes as the length says are there, and have been written (static storage has)
+ *   - memory and area share no byte with each other, with the table or with the bytes
+ */
+#ifndef BIRNENSCHLOSS_H
+#define BIRNENSCHLOSS_H
+
+#include <stddef.h>
+#include <stdint.h>
+
+/* The numbers. An operating system's header may have E_OK: include it before this one. */
+#ifndef E_OK
+#define E_OK 0 /* done */
+#endif
+#ifndef E_COM_ID
+#define E_COM_ID 1 /* no such object or I-PDU, or not of the kind that the call needs */
+#endif
+#ifndef E_COM_LENGTH
+#define E_COM_LENGTH 2 /* a good indication whose length is not the I-PDU's */
+#endif
+#ifndef E_COM_LIMIT
+#define E_COM_LIMIT 3 /* the queue has lost a value since the last receive */
+#endif
+#ifndef E_COM_NOMSG
+#define E_COM_NOMSG 4 /* the queue is empty */
+#endif
+#define BIRNENSCHLOSS_E_TABLE 5         /* the table is wrong */
+#define BIRNENSCHLOSS_E_MEMORY 6        /* memory or area short, or a stored number out of range */
+#define BIRNENSCHLOSS_E_STOPPED 7       /* the layer is stopped */
+#define BIRNENSCHLOSS_E_NOT_REQUESTED 8 /* a confirm, and no request is open */
+
+/* Does not compile where another header gives OSEK's names other numbers than the library. */
+typedef char birnenschloss_numbers_agree[(E_OK) == 0 && (E_COM_ID) == 1 && (E_COM_LENGTH) == 2 &&
+                                                 (E_COM_LIMIT) == 3 && (E_COM_NOMSG) == 4
+                                             ? 1
+                                             : -1];
+
+/* Bytes of working memory, of a request area, and of one slot in it. */
+#define BIRNENSCHLOSS_MEMORY_SIZE 8192
+#define BIRNENSCHLOSS_AREA_SIZE 256
+#define BIRNENSCHLOSS_SLOT_SIZE 8
+
+/* The marks of a message object, added. */
+#define BIRNENSCHLOSS_MARK_ARRIVED 1
+#define BIRNENSCHLOSS_MARK_SENT 2
+#define BIRNENSCHLOSS_MARK_RECEIVE_ERROR 4
+#define BIRNENSCHLOSS_MARK_SEND_ERROR 8
+
+/* The places that birnenschloss_check names: the header, below 256 the number of an I-PDU, from
+ * 256 on the number of a message object and 256. */
+#define BIRNENSCHLOSS_PLACE_HEADER 65535
+#define BIRNENSCHLOSS_PLACE_OBJECT 256
+
+/* A number, and the value that comes with it. */
+typedef struct birnenschloss_answer {
+    uint32_t number;
+    uint32_t value;
+} birnenschloss_answer;
+
+/* Whether the word of a send or a tick names the I-PDU: its frame then stands in its slot. */
+static inline int birnenschloss_is_requested(uint32_t word, uint32_t ipdu)
+{
+    return ipdu < 32 && (word >> ipdu & 1) != 0;
+}
+
+#ifdef __cplusplus
+extern "C" {
+#endif
+
+/* Checks a table. Answers 0, or 5 with the place of the first wrong record. */
+birnenschloss_answer birnenschloss_check(const uint8_t *table, size_t table_length);
+
+/* Starts the layer, or starts it again: writes all 8192 bytes, from the table alone. I-PDUs and
+ * receive objects get the initial values; queues are empty, marks clear, no period runs.
+ * Answers 0, 5, 6 (for the length alone). */
+birnenschloss_answer birnenschloss_start(const uint8_t *table, size_t table_length,
+                                         uint8_t *memory, size_t memory_length);
+
+/* Stops the layer: every call but a start is answered 7 from then on. Answers 0, 5, 6, 7. */
+birnenschloss_answer birnenschloss_stop(const uint8_t *table, size_t table_length,
+                                        uint8_t *memory, size_t memory_length);
+
+/* Sends a value: gives it to the internal receivers, then filters, and packs what passes. A
+ * triggered object asks for its I-PDU, now or, while another request is open or the minimum delay
+ * runs, at a later tick. Answers 0 with the word of the I-PDUs requested now, also for a dropped
+ * value; 1 (no send object), 5, 6, 7. */
+birnenschloss_answer birnenschloss_send(const uint8_t *table, size_t table_length,
+                                        uint8_t *memory, size_t memory_length,
+                                        uint8_t *area, size_t area_length,
+                                        uint32_t object, uint32_t value);
+
+/* Sets the bits of a send object in its I-PDU, or the value of a receive object, whose queue is
+ * emptied; the filter's old value becomes it. Not filtered, and no request. Answers 0, 1 (no
+ * object), 5, 6, 7. */
+birnenschloss_answer birnenschloss_initialise(const uint8_t *table, size_t table_length,
+                                              uint8_t *memory, size_t memory_length,
+                                              uint32_t object, uint32_t value);
+
+/* Gives the value of an unqueued receive object, or the oldest of a queue and removes it there.
+ * Answers 0 or 3 with the value; a 3 clears the overflow; 1 (no receive object), 4, 5, 6, 7. */
+birnenschloss_answer birnenschloss_receive(const uint8_t *table, size_t table_length,
+                                           uint8_t *memory, size_t memory_length,
+                                           uint32_t object);
+
+/* The state of a queue; changes nothing. Answers 0 (a value waits), 1 (no queued object), 3, 4, 5,
+ * 6, 7, each with 0. */
+birnenschloss_answer birnenschloss_status(const uint8_t *table, size_t table_length,
+                                          const uint8_t *memory, size_t memory_length,
+                                          uint32_t object);
+
+/* The marks of an object; changes nothing. Answers 0 with their sum, 1 (no object), 5, 6, 7. */
+birnenschloss_answer birnenschloss_marks(const uint8_t *table, size_t table_length,
+                                         const uint8_t *memory, size_t memory_length,
+                                         uint32_t object);
+
+/* Clears the marks of an object, all four. Answers 0, 1 (no object), 5, 6, 7. */
+birnenschloss_answer birnenschloss_clear_marks(const uint8_t *table, size_t table_length,
+                                               uint8_t *memory, size_t memory_length,
+                                               uint32_t object);
+
+/* Sets the period of each periodic and mixed I-PDU to its offset, running or not, and lets it
+ * run. Answers 0, 5, 6, 7. */
+birnenschloss_answer birnenschloss_start_periodic(const uint8_t *table, size_t table_length,
+                                                  uint8_t *memory, size_t memory_length);
+
+/* Halts all periods; a request that waits stays. Answers 0, 5, 6, 7. */
+birnenschloss_answer birnenschloss_stop_periodic(const uint8_t *table, size_t table_length,
+                                                 uint8_t *memory, size_t memory_length);
+
+/* The bus has received an I-PDU. Good (not 0): its bytes are kept and delivered to its objects, and
+ * its deadline starts again. Not good: receive error is marked on its objects, and the bytes are
+ * not looked at. Answers 0, 1 (no receive I-PDU), 2, 5, 6, 7. */
+birnenschloss_answer birnenschloss_indication(const uint8_t *table, size_t table_length,
+                                              uint8_t *memory, size_t memory_length,
+                                              uint32_t ipdu, uint32_t good,
+                                              const uint8_t *bytes, size_t length);
+
+/* The bus has transmitted a requested I-PDU, good (not 0) or not: closes the request and marks sent
+ * or send error on its objects. Good starts the minimum delay. Answers 0, 1 (no send I-PDU), 5, 6,
+ * 7, 8. */
+birnenschloss_answer birnenschloss_confirm(const uint8_t *table, size_t table_length,
+                                           uint8_t *memory, size_t memory_length,
+                                           uint32_t ipdu, uint32_t good);
+
+/* A tick of time has passed: delays, deadlines and periods go on, and requests that waited are
+ * made. Answers 0 with the word of the I-PDUs requested; 5, 6, 7. */
+birnenschloss_answer birnenschloss_tick(const uint8_t *table, size_t table_length,
+                                        uint8_t *memory, size_t memory_length,
+                                        uint8_t *area, size_t area_length);
+
+#ifdef __cplusplus
+}
+#endif
+
+#endif

@@ -1,0 +1,328 @@
+/*
+ * Every function of birnenschloss.h, called from C; the answers are worked out by hand from
+ * document 01. Memory and area are longer than needed, so that lengths and pointers that change
+ * places would show, and their ends must stay. Ends with 1 at the first answer that differs.
+ */
+#include <stdio.h>
+#include <stdlib.h>
+#include <string.h>
+
+#include "birnenschloss.h"
+
+enum { DIRECT, INCOMING, PERIODIC, NO_IPDU };
+enum { READING, QUEUE, LAST, INSIDE, WIDE, NO_OBJECT };
+
+#define TABLE_SIZE 224
+
+static const uint8_t right_table[TABLE_SIZE] = {
+    /* 3 I-PDUs, 5 message objects, records at 16 and 64, 224 bytes */
+    3, 0, 5, 0, 16, 0, 64, 0, 224, 0, 0, 0, 0, 0, 0, 0,
+    /* direct: sent, 4 bytes, minimum delay 3, deadline 10 */
+    1, 4, 0, 0, 0, 0, 0, 0, 3, 0, 10, 0, 0, 0, 0, 0,
+    /* incoming: received, 2 bytes, deadline 100 */
+    2, 2, 0, 0, 0, 0, 0, 0, 0, 0, 100, 0, 0, 0, 0, 0,
+    /* periodic: sent, 8 bytes, period 4, offset 2, deadline 2 */
+    1, 8, 1, 0, 4, 0, 2, 0, 0, 0, 2, 0, 0, 0, 0, 0,
+    /* reading: sent in direct, bit 13, 12 bits, little, triggered, filter 5 */
+    1, 0, 255, 13, 12, 0, 0, 0, 5, 0, 0, 0, 0, 0, 0, 0,
+    0, 0, 0, 0, 0, 0, 0, 0, 0, 0, 0, 0, 0, 0, 0, 0,
+    /* queue: received in incoming, bit 0, 8 bits, depth 2 */
+    2, 1, 255, 0, 8, 0, 0, 2, 0, 0, 0, 0, 0, 0, 0, 0,
+    0, 0, 0, 0, 0, 0, 0, 0, 0, 0, 0, 0, 0, 0, 0, 0,
+    /* last: received in incoming, bit 8, 8 bits, unqueued, initial value 90 */
+    2, 1, 255, 8, 8, 0, 0, 0, 0, 0, 0, 0, 90, 0, 0, 0,
+    0, 0, 0, 0, 0, 0, 0, 0, 0, 0, 0, 0, 0, 0, 0, 0,
+    /* inside: receives what reading sends, unqueued, initial value hex 04030201 */
+    2, 255, 0, 0, 32, 0, 0, 0, 0, 0, 0, 0, 1, 2, 3, 4,
+    0, 0, 0, 0, 0, 0, 0, 0, 0, 0, 0, 0, 0, 0, 0, 0,
+    /* wide: sent in periodic, bit 24, 32 bits, big, triggered, filter 0 */
+    1, 2, 255, 24, 32, 1, 0, 0, 0, 0, 0, 0, 0, 0, 0, 0,
+    0, 0, 0, 0, 0, 0, 0, 0, 0, 0, 0, 0, 0, 0, 0, 0,
+};
+
+/* What is lent, with five and three bytes that no call may touch at the ends. */
+#define MEMORY_LENT (BIRNENSCHLOSS_MEMORY_SIZE + 5)
+#define AREA_LENT (BIRNENSCHLOSS_AREA_SIZE + 3)
+
+static struct lent {
+    uint8_t table[TABLE_SIZE];
+    uint8_t memory[MEMORY_LENT];
+    uint8_t area[AREA_LENT];
+} lent, before;
+
+static unsigned answers;
+
+#define LENT lent.table, TABLE_SIZE, lent.memory, MEMORY_LENT
+#define AREA lent.area, AREA_LENT
+
+static void require(int holds, int line, const char *what)
+{
+    if (!holds) {
+        printf("boundary.c:%d: %s\n", line, what);
+        exit(1);
+    }
+}
+
+static void answered(birnenschloss_answer a, uint32_t number, uint32_t value, int line)
+{
+    answers++;
+    if (a.number != number || a.value != value) {
+        printf("boundary.c:%d: answered %lu with %lu, should be %lu with %lu\n", line,
+               (unsigned long)a.number, (unsigned long)a.value, (unsigned long)number,
+               (unsigned long)value);
+        exit(1);
+    }
+}
+
+static void note_bytes(void) { memcpy(&before, &lent, sizeof lent); }
+
+#define ANSWERS(call, number, value) answered(call, number, value, __LINE__)
+#define REQUIRE(condition) require(condition, __LINE__, "does not hold: " #condition)
+#define SAME_BYTES() require(memcmp(&before, &lent, sizeof lent) == 0, __LINE__, "bytes changed")
+
+/* A call that must be refused, and leave all lent bytes. */
+#define REFUSES(call, number)     \
+    do {                          \
+        note_bytes();             \
+        ANSWERS(call, number, 0); \
+        SAME_BYTES();             \
+    } while (0)
+
+/* Call n of the thirteen, with these lengths and otherwise right arguments. */
+enum { START, STOP, SEND = 2, TICK = 12, CALLS = 13 };
+
+static birnenschloss_answer any(int n, size_t tn, size_t mn, size_t an)
+{
+    static const uint8_t bytes[2] = {1, 2};
+    const uint8_t *t = lent.table;
+    uint8_t *m = lent.memory, *a = lent.area;
+    switch (n) {
+    case START: return birnenschloss_start(t, tn, m, mn);
+    case STOP: return birnenschloss_stop(t, tn, m, mn);
+    case SEND: return birnenschloss_send(t, tn, m, mn, a, an, READING, 1);
+    case 3: return birnenschloss_initialise(t, tn, m, mn, LAST, 1);
+    case 4: return birnenschloss_receive(t, tn, m, mn, LAST);
+    case 5: return birnenschloss_status(t, tn, m, mn, QUEUE);
+    case 6: return birnenschloss_marks(t, tn, m, mn, QUEUE);
+    case 7: return birnenschloss_clear_marks(t, tn, m, mn, QUEUE);
+    case 8: return birnenschloss_start_periodic(t, tn, m, mn);
+    case 9: return birnenschloss_stop_periodic(t, tn, m, mn);
+    case 10: return birnenschloss_indication(t, tn, m, mn, INCOMING, 1, bytes, 2);
+    case 11: return birnenschloss_confirm(t, tn, m, mn, DIRECT, 1);
+    default: return birnenschloss_tick(t, tn, m, mn, a, an);
+    }
+}
+
+static void fresh(uint8_t filling)
+{
+    memset(lent.memory, filling, MEMORY_LENT);
+    memset(lent.area, 0xC3, AREA_LENT);
+    memcpy(lent.table, right_table, TABLE_SIZE);
+}
+
+/* The check's places: header, I-PDU, object. */
+static void places(void)
+{
+    size_t n;
+    fresh(0xA5);
+    note_bytes();
+    ANSWERS(birnenschloss_check(lent.table, TABLE_SIZE), E_OK, 0);
+    for (n = 0; n < TABLE_SIZE; n++)
+        ANSWERS(birnenschloss_check(lent.table, n), BIRNENSCHLOSS_E_TABLE,
+                BIRNENSCHLOSS_PLACE_HEADER);
+    SAME_BYTES();
+    lent.table[64 + 4 * 32 + 4] = 33; /* bits of wide */
+    ANSWERS(birnenschloss_check(lent.table, TABLE_SIZE), 5, BIRNENSCHLOSS_PLACE_OBJECT + WIDE);
+    lent.table[64 + 32 + 7] = 17; /* depth of queue */
+    ANSWERS(birnenschloss_check(lent.table, TABLE_SIZE), 5, 256 + QUEUE);
+    lent.table[16 + 2 * 16] = 3; /* direction of periodic */
+    ANSWERS(birnenschloss_check(lent.table, TABLE_SIZE), 5, PERIODIC);
+    lent.table[4] = 17; /* offset of the I-PDU records */
+    ANSWERS(birnenschloss_check(lent.table, TABLE_SIZE), 5, 65535);
+}
+
+/* Numbers 5 and 6, for every call, and their order. */
+static void too_short(void)
+{
+    static const size_t table_lengths[] = {0, 1, 15, 16, TABLE_SIZE - 1};
+    static const size_t memory_lengths[] = {0, 1, BIRNENSCHLOSS_MEMORY_SIZE - 1};
+    static const size_t area_lengths[] = {0, 1, BIRNENSCHLOSS_AREA_SIZE - 1};
+    int n, i;
+    fresh(0xA5);
+    for (n = 0; n < CALLS; n++) {
+        if (n != START)
+            REFUSES(any(n, TABLE_SIZE, MEMORY_LENT, AREA_LENT), 6); /* no start yet */
+        for (i = 0; i < 3; i++)
+            REFUSES(any(n, TABLE_SIZE, memory_lengths[i], AREA_LENT), 6);
+    }
+    ANSWERS(birnenschloss_start(LENT), 0, 0);
+    for (n = 0; n < CALLS; n++) {
+        for (i = 0; i < 5; i++)
+            REFUSES(any(n, table_lengths[i], 0, 0), 5);
+        for (i = 0; i < 3; i++)
+            if (n == SEND || n == TICK)
+                REFUSES(any(n, TABLE_SIZE, MEMORY_LENT, area_lengths[i]), 6);
+    }
+    lent.table[16] = 0; /* the direction of an I-PDU: the place is the check's alone */
+    for (n = 0; n < CALLS; n++)
+        REFUSES(any(n, TABLE_SIZE, MEMORY_LENT, AREA_LENT), BIRNENSCHLOSS_E_TABLE);
+}
+
+/* Start writes 8192 bytes, whatever they were, and nothing else; so does a start again. */
+static void start(void)
+{
+    static uint8_t first[BIRNENSCHLOSS_MEMORY_SIZE];
+    int i;
+    fresh(0xA5);
+    ANSWERS(birnenschloss_start(LENT), 0, 0);
+    memcpy(first, lent.memory, sizeof first);
+    for (i = 0; i < 5; i++)
+        REQUIRE(lent.memory[BIRNENSCHLOSS_MEMORY_SIZE + i] == 0xA5);
+    fresh(0x5A);
+    ANSWERS(birnenschloss_start(lent.table, TABLE_SIZE, lent.memory, sizeof first), 0, 0);
+    REQUIRE(memcmp(first, lent.memory, sizeof first) == 0);
+    for (i = 0; i < AREA_LENT; i++)
+        REQUIRE(lent.area[i] == 0xC3);
+    ANSWERS(birnenschloss_receive(LENT, LAST), 0, 90);
+    ANSWERS(birnenschloss_receive(LENT, INSIDE), 0, 0x04030201);
+}
+
+/* Number 1: too large, or of the wrong kind. */
+static void identifiers(void)
+{
+    static const uint8_t bytes[2] = {1, 2};
+    uint32_t n;
+    ANSWERS(birnenschloss_start(LENT), 0, 0);
+    for (n = NO_OBJECT; n != 0; n *= 2) { /* 5, 10, up to the highest bit, then out of it */
+        REFUSES(birnenschloss_send(LENT, AREA, n, 1), E_COM_ID);
+        REFUSES(birnenschloss_initialise(LENT, n, 1), E_COM_ID);
+        REFUSES(birnenschloss_receive(LENT, n), E_COM_ID);
+        REFUSES(birnenschloss_status(LENT, n), E_COM_ID);
+        REFUSES(birnenschloss_marks(LENT, n), E_COM_ID);
+        REFUSES(birnenschloss_clear_marks(LENT, n), E_COM_ID);
+        REFUSES(birnenschloss_indication(LENT, n, 1, bytes, 2), E_COM_ID);
+        REFUSES(birnenschloss_confirm(LENT, n, 1), E_COM_ID);
+    }
+    REFUSES(birnenschloss_indication(LENT, NO_IPDU, 0, bytes, 0), 1);
+    REFUSES(birnenschloss_indication(LENT, DIRECT, 1, bytes, 1), 1); /* before 2 */
+    REFUSES(birnenschloss_confirm(LENT, INCOMING, 1), 1);            /* before 8 */
+    REFUSES(birnenschloss_send(LENT, AREA, QUEUE, 1), 1);
+    REFUSES(birnenschloss_receive(LENT, READING), 1);
+    REFUSES(birnenschloss_status(LENT, LAST), 1);
+}
+
+/* Sends, the minimum delay, confirms and number 8. */
+static void sending(void)
+{
+    static const uint8_t frame[8] = {0, 0x80, 0x57, 1, 0, 0, 0, 0}; /* case 1 */
+    int i;
+    fresh(0xA5);
+    ANSWERS(birnenschloss_start(LENT), 0, 0);
+    REFUSES(birnenschloss_confirm(LENT, DIRECT, 1), BIRNENSCHLOSS_E_NOT_REQUESTED);
+    ANSWERS(birnenschloss_send(LENT, AREA, READING, 0), 0, 0); /* as the initial value: dropped */
+    ANSWERS(birnenschloss_send(LENT, AREA, READING, 2748), 0, 1 << DIRECT);
+    REQUIRE(memcmp(lent.area, frame, 8) == 0);
+    for (i = 8; i < AREA_LENT; i++)
+        REQUIRE(lent.area[i] == 0xC3);
+    ANSWERS(birnenschloss_send(LENT, AREA, READING, 0xFFFF1ABC), 0, 0); /* postponed */
+    ANSWERS(birnenschloss_receive(LENT, INSIDE), 0, 0xFFFF1ABC);
+    ANSWERS(birnenschloss_marks(LENT, INSIDE), 0, BIRNENSCHLOSS_MARK_ARRIVED);
+    ANSWERS(birnenschloss_confirm(LENT, DIRECT, 256), 0, 0); /* good: not 0 */
+    ANSWERS(birnenschloss_marks(LENT, READING), 0, BIRNENSCHLOSS_MARK_SENT);
+    memset(lent.area, 0xC3, AREA_LENT);
+    ANSWERS(birnenschloss_tick(LENT, AREA), 0, 0);
+    ANSWERS(birnenschloss_tick(LENT, AREA), 0, 0);
+    REQUIRE(lent.area[0] == 0xC3);
+    ANSWERS(birnenschloss_tick(LENT, AREA), 0, 1 << DIRECT); /* minimum delay 3 */
+    REQUIRE(memcmp(lent.area, frame, 8) == 0);
+    ANSWERS(birnenschloss_confirm(LENT, DIRECT, 0), 0, 0);
+    ANSWERS(birnenschloss_marks(LENT, READING), 0, 2 + BIRNENSCHLOSS_MARK_SEND_ERROR);
+    ANSWERS(birnenschloss_clear_marks(LENT, READING), 0, 0);
+    ANSWERS(birnenschloss_marks(LENT, READING), 0, 0);
+    ANSWERS(birnenschloss_marks(LENT, INSIDE), 0, 1);
+}
+
+/* A period: requests on ticks 2 and 6 after start periodic, and a deadline of 2. */
+static void period(void)
+{
+    static const uint8_t frame[8] = {0x11, 0x22, 0x33, 0x44, 0, 0, 0, 0};
+    int i;
+    fresh(0xA5);
+    ANSWERS(birnenschloss_start(LENT), 0, 0);
+    ANSWERS(birnenschloss_initialise(LENT, WIDE, 0x11223344), 0, 0);
+    ANSWERS(birnenschloss_start_periodic(LENT), 0, 0);
+    for (i = 1; i <= 6; i++) {
+        ANSWERS(birnenschloss_tick(LENT, AREA), 0, i == 2 || i == 6 ? 1 << PERIODIC : 0);
+        ANSWERS(birnenschloss_marks(LENT, WIDE), 0, i < 4 ? 0 : BIRNENSCHLOSS_MARK_SEND_ERROR);
+        REQUIRE((memcmp(lent.area + 2 * BIRNENSCHLOSS_SLOT_SIZE, frame, 8) == 0) == (i >= 2));
+    }
+    REQUIRE(lent.area[15] == 0xC3 && lent.area[24] == 0xC3);
+    ANSWERS(birnenschloss_stop_periodic(LENT), 0, 0);
+    for (i = 0; i < 9; i++)
+        ANSWERS(birnenschloss_tick(LENT, AREA), 0, 0);
+    REQUIRE(birnenschloss_is_requested(4, PERIODIC) && birnenschloss_is_requested(1u << 31, 31));
+    REQUIRE(!birnenschloss_is_requested(4, 1) && !birnenschloss_is_requested(0xFFFFFFFF, 32));
+}
+
+/* Indications, the queue and numbers 2, 3 and 4; the deadline of 100. */
+static void receiving(void)
+{
+    uint8_t bytes[3] = {7, 0xEE, 0xDD};
+    int i;
+    fresh(0xA5);
+    ANSWERS(birnenschloss_start(LENT), 0, 0);
+    REFUSES(birnenschloss_status(LENT, QUEUE), E_COM_NOMSG);
+    REFUSES(birnenschloss_receive(LENT, QUEUE), E_COM_NOMSG);
+    REFUSES(birnenschloss_indication(LENT, INCOMING, 1, bytes, 0), E_COM_LENGTH);
+    REFUSES(birnenschloss_indication(LENT, INCOMING, 1, bytes, 1), E_COM_LENGTH);
+    REFUSES(birnenschloss_indication(LENT, INCOMING, 1, bytes, 3), E_COM_LENGTH);
+    for (i = 1; i <= 100; i++)
+        ANSWERS(birnenschloss_tick(LENT, AREA), 0, 0), /* the hundredth runs out */
+            ANSWERS(birnenschloss_marks(LENT, LAST), 0, i < 100 ? 0 : 4);
+    ANSWERS(birnenschloss_clear_marks(LENT, LAST), 0, 0);
+    ANSWERS(birnenschloss_indication(LENT, INCOMING, 0, bytes, 0), 0, 0);
+    ANSWERS(birnenschloss_marks(LENT, LAST), 0, BIRNENSCHLOSS_MARK_RECEIVE_ERROR);
+    for (; bytes[0] < 10; bytes[0]++) /* 7, 8 and 9 */
+        ANSWERS(birnenschloss_indication(LENT, INCOMING, 0x80000000, bytes, 2), 0, 0);
+    ANSWERS(birnenschloss_marks(LENT, LAST), 0, 1 + 4);
+    REFUSES(birnenschloss_status(LENT, QUEUE), E_COM_LIMIT);
+    ANSWERS(birnenschloss_receive(LENT, QUEUE), E_COM_LIMIT, 7);
+    ANSWERS(birnenschloss_status(LENT, QUEUE), 0, 0);
+    ANSWERS(birnenschloss_receive(LENT, QUEUE), 0, 8);
+    REFUSES(birnenschloss_receive(LENT, QUEUE), E_COM_NOMSG);
+    ANSWERS(birnenschloss_receive(LENT, LAST), 0, 0xEE);
+    ANSWERS(birnenschloss_initialise(LENT, LAST, 0xDEADBEEF), 0, 0);
+    ANSWERS(birnenschloss_receive(LENT, LAST), 0, 0xDEADBEEF);
+}
+
+/* Number 7: stop changes one byte, and only a start comes after it. */
+static void stop(void)
+{
+    int n;
+    fresh(0xA5);
+    ANSWERS(birnenschloss_start(LENT), 0, 0);
+    note_bytes();
+    ANSWERS(birnenschloss_stop(LENT), 0, 0);
+    before.memory[0] = 1;
+    SAME_BYTES();
+    for (n = STOP; n < CALLS; n++)
+        REFUSES(any(n, TABLE_SIZE, MEMORY_LENT, AREA_LENT), BIRNENSCHLOSS_E_STOPPED);
+    REFUSES(birnenschloss_send(LENT, lent.area, 255, NO_OBJECT, 1), 6); /* 6, 7, 1: in this order */
+    REFUSES(birnenschloss_send(LENT, AREA, NO_OBJECT, 1), 7);
+    ANSWERS(birnenschloss_start(LENT), 0, 0);
+    ANSWERS(birnenschloss_tick(LENT, AREA), 0, 0);
+}
+
+int main(void)
+{
+    places();
+    too_short();
+    start();
+    identifiers();
+    sending();
+    period();
+    receiving();
+    stop();
+    printf("boundary.c: %u answers as they should be\n", answers);
+    return 0;
+}
