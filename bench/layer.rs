@@ -16,23 +16,23 @@ pub struct Answer {
 }
 
 extern "C" {
-    fn birnenschloss_start(t: *const u8, tl: usize, m: *mut u8, ml: usize) -> Answer;
-    fn birnenschloss_stop(t: *const u8, tl: usize, m: *mut u8, ml: usize) -> Answer;
-    fn birnenschloss_send(
+    pub fn birnenschloss_start(t: *const u8, tl: usize, m: *mut u8, ml: usize) -> Answer;
+    pub fn birnenschloss_stop(t: *const u8, tl: usize, m: *mut u8, ml: usize) -> Answer;
+    pub fn birnenschloss_send(
         t: *const u8, tl: usize, m: *mut u8, ml: usize, area: *mut u8, al: usize, object: u32, value: u32,
     ) -> Answer;
-    fn birnenschloss_initialise(t: *const u8, tl: usize, m: *mut u8, ml: usize, object: u32, value: u32) -> Answer;
-    fn birnenschloss_receive(t: *const u8, tl: usize, m: *mut u8, ml: usize, object: u32) -> Answer;
-    fn birnenschloss_status(t: *const u8, tl: usize, m: *const u8, ml: usize, object: u32) -> Answer;
-    fn birnenschloss_marks(t: *const u8, tl: usize, m: *const u8, ml: usize, object: u32) -> Answer;
-    fn birnenschloss_clear_marks(t: *const u8, tl: usize, m: *mut u8, ml: usize, object: u32) -> Answer;
-    fn birnenschloss_start_periodic(t: *const u8, tl: usize, m: *mut u8, ml: usize) -> Answer;
-    fn birnenschloss_stop_periodic(t: *const u8, tl: usize, m: *mut u8, ml: usize) -> Answer;
-    fn birnenschloss_indication(
+    pub fn birnenschloss_initialise(t: *const u8, tl: usize, m: *mut u8, ml: usize, object: u32, value: u32) -> Answer;
+    pub fn birnenschloss_receive(t: *const u8, tl: usize, m: *mut u8, ml: usize, object: u32) -> Answer;
+    pub fn birnenschloss_status(t: *const u8, tl: usize, m: *const u8, ml: usize, object: u32) -> Answer;
+    pub fn birnenschloss_marks(t: *const u8, tl: usize, m: *const u8, ml: usize, object: u32) -> Answer;
+    pub fn birnenschloss_clear_marks(t: *const u8, tl: usize, m: *mut u8, ml: usize, object: u32) -> Answer;
+    pub fn birnenschloss_start_periodic(t: *const u8, tl: usize, m: *mut u8, ml: usize) -> Answer;
+    pub fn birnenschloss_stop_periodic(t: *const u8, tl: usize, m: *mut u8, ml: usize) -> Answer;
+    pub fn birnenschloss_indication(
         t: *const u8, tl: usize, m: *mut u8, ml: usize, ipdu: u32, good: u32, bytes: *const u8, bl: usize,
     ) -> Answer;
-    fn birnenschloss_confirm(t: *const u8, tl: usize, m: *mut u8, ml: usize, ipdu: u32, good: u32) -> Answer;
-    fn birnenschloss_tick(t: *const u8, tl: usize, m: *mut u8, ml: usize, area: *mut u8, al: usize) -> Answer;
+    pub fn birnenschloss_confirm(t: *const u8, tl: usize, m: *mut u8, ml: usize, ipdu: u32, good: u32) -> Answer;
+    pub fn birnenschloss_tick(t: *const u8, tl: usize, m: *mut u8, ml: usize, area: *mut u8, al: usize) -> Answer;
 }
 
 pub const FRAME: [u8; 8] = [0x5A, 0xC3, 0x7E, 0x91, 0x3C, 0xE7, 0xA5, 0x69];
