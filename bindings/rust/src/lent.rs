@@ -81,6 +81,7 @@ impl<'m> From<&'m mut [u8; MEMORY_SIZE]> for Memory<'m> {
 /// # Ok::<(), Error>(())
 /// ```
 #[derive(Clone, Copy, Debug, PartialEq, Eq, Hash)]
+#[must_use = "the requested I-PDUs are to go to the bus"]
 pub struct Requests(u32);
 
 impl Requests {

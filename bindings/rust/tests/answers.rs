@@ -108,14 +108,14 @@ fn the_four_marks() {
         layer.clear_marks(QUEUED).unwrap();
         layer.indication(ARRIVING, Outcome::NotGood, &[]).unwrap();
         assert_eq!(four(layer, QUEUED), [false, false, true, false]);
-        layer.send(area, READING, 5).unwrap();
+        assert!(layer.send(area, READING, 5).unwrap().contains(SENT));
         layer.confirm(SENT, Outcome::Good).unwrap();
         assert_eq!(four(layer, READING), [false, true, false, false]);
         layer.clear_marks(READING).unwrap();
         for _ in 0..3 {
             assert!(layer.tick(area).unwrap().is_empty());
         }
-        layer.send(area, READING, 6).unwrap();
+        assert!(layer.send(area, READING, 6).unwrap().contains(SENT));
         layer.confirm(SENT, Outcome::NotGood).unwrap();
         assert_eq!(four(layer, READING), [false, false, false, true]);
     });

@@ -1,8 +1,8 @@
 //! Each function through the bindings beside the independent layer of tests/layer, which is
 //! written from the rules alone. After every call the answer, the request area and, by the list in
 //! docs/MEMORY.md, the working memory must be as the independent layer has them. Nothing else
-//! checks the declarations in src/linked.rs, so every number and length here differs from the
-//! others: an argument that is exchanged or lost changes an answer.
+//! checks the declarations in src/linked.rs, so each function is called with many numbers, values
+//! and lengths: an argument that is exchanged or lost changes an answer.
 
 #[path = "../../../tests/layer/call.rs"]
 #[allow(dead_code)]
