@@ -11,31 +11,31 @@ use std::ops::Range;
 #[repr(C)]
 #[derive(Clone, Copy)]
 pub struct Answer {
-    number: u32,
-    value: u32,
+    pub number: u32,
+    pub value: u32,
 }
 
 extern "C" {
-    fn birnenschloss_start(t: *const u8, tl: usize, m: *mut u8, ml: usize) -> Answer;
-    fn birnenschloss_stop(t: *const u8, tl: usize, m: *mut u8, ml: usize) -> Answer;
-    fn birnenschloss_send(
+    pub fn birnenschloss_start(t: *const u8, tl: usize, m: *mut u8, ml: usize) -> Answer;
+    pub fn birnenschloss_stop(t: *const u8, tl: usize, m: *mut u8, ml: usize) -> Answer;
+    pub fn birnenschloss_send(
         t: *const u8, tl: usize, m: *mut u8, ml: usize, area: *mut u8, al: usize, object: u32, value: u32,
     ) -> Answer;
-    fn birnenschloss_initialise(t: *const u8, tl: usize, m: *mut u8, ml: usize, object: u32, value: u32) -> Answer;
-    fn birnenschloss_receive(t: *const u8, tl: usize, m: *mut u8, ml: usize, object: u32) -> Answer;
-    fn birnenschloss_status(t: *const u8, tl: usize, m: *const u8, ml: usize, object: u32) -> Answer;
-    fn birnenschloss_marks(t: *const u8, tl: usize, m: *const u8, ml: usize, object: u32) -> Answer;
-    fn birnenschloss_clear_marks(t: *const u8, tl: usize, m: *mut u8, ml: usize, object: u32) -> Answer;
-    fn birnenschloss_start_periodic(t: *const u8, tl: usize, m: *mut u8, ml: usize) -> Answer;
-    fn birnenschloss_stop_periodic(t: *const u8, tl: usize, m: *mut u8, ml: usize) -> Answer;
-    fn birnenschloss_indication(
+    pub fn birnenschloss_initialise(t: *const u8, tl: usize, m: *mut u8, ml: usize, object: u32, value: u32) -> Answer;
+    pub fn birnenschloss_receive(t: *const u8, tl: usize, m: *mut u8, ml: usize, object: u32) -> Answer;
+    pub fn birnenschloss_status(t: *const u8, tl: usize, m: *const u8, ml: usize, object: u32) -> Answer;
+    pub fn birnenschloss_marks(t: *const u8, tl: usize, m: *const u8, ml: usize, object: u32) -> Answer;
+    pub fn birnenschloss_clear_marks(t: *const u8, tl: usize, m: *mut u8, ml: usize, object: u32) -> Answer;
+    pub fn birnenschloss_start_periodic(t: *const u8, tl: usize, m: *mut u8, ml: usize) -> Answer;
+    pub fn birnenschloss_stop_periodic(t: *const u8, tl: usize, m: *mut u8, ml: usize) -> Answer;
+    pub fn birnenschloss_indication(
         t: *const u8, tl: usize, m: *mut u8, ml: usize, ipdu: u32, good: u32, bytes: *const u8, bl: usize,
     ) -> Answer;
-    fn birnenschloss_confirm(t: *const u8, tl: usize, m: *mut u8, ml: usize, ipdu: u32, good: u32) -> Answer;
-    fn birnenschloss_tick(t: *const u8, tl: usize, m: *mut u8, ml: usize, area: *mut u8, al: usize) -> Answer;
+    pub fn birnenschloss_confirm(t: *const u8, tl: usize, m: *mut u8, ml: usize, ipdu: u32, good: u32) -> Answer;
+    pub fn birnenschloss_tick(t: *const u8, tl: usize, m: *mut u8, ml: usize, area: *mut u8, al: usize) -> Answer;
 }
 
-const FRAME: [u8; 8] = [0x5A, 0xC3, 0x7E, 0x91, 0x3C, 0xE7, 0xA5, 0x69];
+pub const FRAME: [u8; 8] = [0x5A, 0xC3, 0x7E, 0x91, 0x3C, 0xE7, 0xA5, 0x69];
 const SLOTS: usize = 528;
 const REPETITIONS: usize = 10;
 
@@ -58,7 +58,7 @@ pub enum Call {
 }
 use Call::*;
 
-fn make(call: Call, t: &[u8], m: &mut [u8], area: &mut [u8]) -> Answer {
+pub fn make(call: Call, t: &[u8], m: &mut [u8], area: &mut [u8]) -> Answer {
     let (tp, tl, mp, ml) = (t.as_ptr(), t.len(), m.as_mut_ptr(), m.len());
     unsafe {
         match call {
@@ -103,7 +103,7 @@ fn object(bytes: [u8; 8], filter: u8, first: u32, second: u32) -> [u8; 32] {
     o
 }
 
-fn large() -> Vec<u8> {
+pub fn large() -> Vec<u8> {
     let mut t = header(32, 128);
     for k in 0..16 {
         t.extend(match k % 4 {
@@ -144,7 +144,7 @@ fn large() -> Vec<u8> {
     t
 }
 
-fn case12() -> Vec<u8> {
+pub fn case12() -> Vec<u8> {
     let mut t = header(1, 1);
     t.extend([1, 4, 0, 0, 0, 0, 0, 0, 3, 0, 10, 0, 0, 0, 0, 0]);
     t.extend(object([1, 0, 255, 13, 12, 0, 0, 0], 5, 0, 0));
@@ -153,17 +153,17 @@ fn case12() -> Vec<u8> {
 
 // The calls before the measured one, the measured one, its answer, the marks that some objects have after it, and whether it
 // changed the slot of an I-PDU. Together they tell the paths of a call apart.
-struct Row {
-    name: &'static str,
-    before: Vec<Call>,
-    call: Call,
-    answer: (u32, u32),
-    marks: (Range<u32>, u32),
-    slot: (usize, bool),
+pub struct Row {
+    pub name: &'static str,
+    pub before: Vec<Call>,
+    pub call: Call,
+    pub answer: (u32, u32),
+    pub marks: (Range<u32>, u32),
+    pub slot: (usize, bool),
 }
 
 #[rustfmt::skip]
-fn rows(large: bool) -> Vec<Row> {
+pub fn rows(large: bool) -> Vec<Row> {
     let mut rows = Vec::new();
     let mut row = |name, before: &[Call], call, answer, marks, slot| {
         rows.push(Row { name, before: before.to_vec(), call, answer, marks, slot })

@@ -1,0 +1,99 @@
+// Makes each call of bench/layer.rs, on both tables, on a stack of its own that was painted before, and prints how deep it was
+// written: `FUNCTION BYTES`, the most over the function's rows. x86-64 alone.
+#[path = "layer.rs"]
+#[allow(dead_code)]
+mod layer;
+
+use layer::Call::*;
+use std::arch::asm;
+use std::collections::BTreeMap;
+
+extern "C" {
+    fn birnenschloss_check(t: *const u8, tl: usize) -> layer::Answer;
+}
+
+const STACK: usize = 65536;
+/// Arguments that a function with eight of them finds on the stack.
+const PUSHED: usize = 16;
+/// A byte that is written with one paint shows under the other.
+const PAINTS: [u8; 2] = [0xAA, 0x55];
+
+#[repr(align(16))]
+struct Stack([u8; STACK]);
+
+struct Made {
+    name: &'static str,
+    function: *const (),
+    arguments: Vec<usize>,
+}
+
+/// The function and the arguments of a call, as the C interface has them.
+#[rustfmt::skip]
+fn made(call: layer::Call, t: &[u8], m: &mut [u8], area: &mut [u8]) -> Made {
+    let (a, al) = (area.as_mut_ptr() as u64, area.len() as u64);
+    let (f, fl) = (layer::FRAME.as_ptr() as u64, layer::FRAME.len() as u64);
+    let short = matches!(call, StartShort) as usize;
+    use layer::*;
+    let (name, function, more): (_, _, &[u64]) = match call {
+        Start | StartShort => ("start", birnenschloss_start as *const (), &[]),
+        Stop => ("stop", birnenschloss_stop as *const (), &[]),
+        Send(i, v) => ("send", birnenschloss_send as *const (), &[a, al, i.into(), v.into()]),
+        Initialise(i, v) => ("initialise", birnenschloss_initialise as *const (), &[i.into(), v.into()]),
+        Receive(i) => ("receive", birnenschloss_receive as *const (), &[i.into()]),
+        Status(i) => ("status", birnenschloss_status as *const (), &[i.into()]),
+        Marks(i) => ("marks", birnenschloss_marks as *const (), &[i.into()]),
+        ClearMarks(i) => ("clear_marks", birnenschloss_clear_marks as *const (), &[i.into()]),
+        StartPeriodic => ("start_periodic", birnenschloss_start_periodic as *const (), &[]),
+        StopPeriodic => ("stop_periodic", birnenschloss_stop_periodic as *const (), &[]),
+        Indication(k, good) => ("indication", birnenschloss_indication as *const (), &[k.into(), good.into(), f, fl]),
+        Confirm(k, good) => ("confirm", birnenschloss_confirm as *const (), &[k.into(), good.into()]),
+        Tick => ("tick", birnenschloss_tick as *const (), &[a, al]),
+    };
+    let lent = [t.as_ptr() as usize, t.len(), m.as_mut_ptr() as usize, m.len() - short];
+    Made { name, function, arguments: lent.into_iter().chain(more.iter().map(|n| *n as usize)).collect() }
+}
+
+/// Calls the function on the stack, and gives its number and value.
+fn call_on(stack: &mut Stack, made: &Made) -> (u32, u32) {
+    let [a, b, c, d, e, f, g, h] = std::array::from_fn(|i| *made.arguments.get(i).unwrap_or(&0));
+    let answer: u64;
+    // The arguments are right for the function, and the stack is lent for the call and long enough.
+    unsafe {
+        asm!(
+            "mov r12, rsp", "mov rsp, {top}", "push {h}", "push {g}", "call {function}", "mov rsp, r12",
+            top = in(reg) stack.0.as_mut_ptr_range().end, g = in(reg) g, h = in(reg) h, function = in(reg) made.function,
+            in("rdi") a, in("rsi") b, in("rdx") c, in("rcx") d, in("r8") e, in("r9") f,
+            lateout("rax") answer, out("r12") _, clobber_abi("C"),
+        );
+    }
+    (answer as u32, (answer >> 32) as u32)
+}
+
+/// The bytes of stack that the call has written, from its return address on, with those of its arguments that are there.
+fn depth(stack: &mut Stack, made: &Made, paint: u8, answer: (u32, u32)) -> usize {
+    stack.0.fill(paint);
+    assert_eq!(call_on(stack, made), answer, "{}", made.name);
+    let deepest = stack.0.iter().position(|&byte| byte != paint).expect("a return address");
+    STACK - deepest - if made.arguments.len() > 6 { 0 } else { PUSHED }
+}
+
+fn main() {
+    let (mut stack, mut most) = (Box::new(Stack([0; STACK])), BTreeMap::new());
+    let mut note = |made: Made, paint, answer| {
+        let most = most.entry(made.name).or_insert(0);
+        *most = depth(&mut stack, &made, paint, answer).max(*most);
+    };
+    for (large, paint) in [false, true].into_iter().flat_map(|large| PAINTS.map(|paint| (large, paint))) {
+        let t = if large { layer::large() } else { layer::case12() };
+        let arguments = vec![t.as_ptr() as usize, t.len()];
+        note(Made { name: "check", function: birnenschloss_check as *const (), arguments }, paint, (0, 0));
+        for row in layer::rows(large) {
+            let (mut m, mut area) = ([0xA5; 8192], [0; 256]);
+            for &call in &row.before {
+                assert_eq!(layer::make(call, &t, &mut m, &mut area).number, 0, "a call before {}", row.name);
+            }
+            note(made(row.call, &t, &mut m, &mut area), paint, row.answer);
+        }
+    }
+    most.iter().for_each(|(name, depth)| println!("{name} {depth}"));
+}

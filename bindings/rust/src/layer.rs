@@ -1,0 +1,167 @@
+//! The thirteen calls.
+
+use crate::answers::{self, Error, Marks, Received, Status};
+use crate::lent::{Area, Memory, Requests, MEMORY_SIZE};
+use crate::linked;
+use crate::numbers::{IpduNumber, ObjectNumber};
+use crate::table::Table;
+
+/// How the transfer of an I-PDU went.
+#[derive(Clone, Copy, Debug, PartialEq, Eq, Hash)]
+pub enum Outcome {
+    /// The I-PDU was sent or has arrived.
+    Good,
+    /// The bus reports an error.
+    NotGood,
+}
+
+/// The interaction layer: a checked table and working memory, with the thirteen calls.
+///
+/// [`start`](Layer::start) comes first. Over memory that was never started, the other calls are
+/// refused with [`Error::Memory`] where a stored number is out of its range; a layer may also be
+/// made over memory that an earlier one with the same table has left, and goes on from there.
+///
+/// ```
+/// use birnenschloss::{Error, Layer, Memory, ObjectNumber, Outcome, Table, MEMORY_SIZE};
+/// # use birnenschloss::{IpduNumber, Received, Status};
+///
+/// // A received I-PDU of one byte, and in it an object of 8 bits with a queue of depth 2.
+/// let mut bytes = [0; 64];
+/// bytes[..10].copy_from_slice(&[1, 0, 1, 0, 16, 0, 32, 0, 64, 0]);
+/// bytes[16..18].copy_from_slice(&[2, 1]);
+/// bytes[32..40].copy_from_slice(&[2, 0, 255, 0, 8, 0, 0, 2]);
+/// let table = Table::check(&bytes)?;
+///
+/// let mut memory = [0xA5; MEMORY_SIZE];
+/// let mut layer = Layer::new(table, Memory::from(&mut memory));
+/// let door = ObjectNumber(0);
+/// assert_eq!(layer.receive(door), Err(Error::Memory)); // not started
+///
+/// layer.start()?;
+/// assert_eq!(layer.receive(door), Err(Error::NoMessage));
+/// for value in [7, 8, 9] {
+///     layer.indication(IpduNumber(0), Outcome::Good, &[value])?;
+/// }
+/// assert_eq!(layer.status(door)?, Status::Overflowed);
+/// assert_eq!(layer.receive(door)?, Received { value: 7, overflowed: true });
+/// assert_eq!(layer.receive(door)?, Received { value: 8, overflowed: false });
+/// assert!(layer.marks(door)?.arrived());
+/// # Ok::<(), Error>(())
+/// ```
+#[derive(Debug)]
+pub struct Layer<'t, 'm> {
+    table: Table<'t>,
+    memory: Memory<'m>,
+}
+
+impl<'t, 'm> Layer<'t, 'm> {
+    /// The layer by this table in this memory. Nothing is written before a call.
+    pub fn new(table: Table<'t>, memory: Memory<'m>) -> Layer<'t, 'm> {
+        Layer { table, memory }
+    }
+
+    /// The table.
+    pub fn table(&self) -> Table<'t> {
+        self.table
+    }
+
+    /// The working memory as it stands.
+    pub fn memory(&self) -> &[u8; MEMORY_SIZE] {
+        self.memory.bytes()
+    }
+
+    /// Starts the layer, also a running or stopped one: writes all of the memory, with initial
+    /// values, empty queues, no marks and no request. Over a checked table it is never refused.
+    pub fn start(&mut self) -> Result<(), Error> {
+        let (t, m) = self.lent();
+        answers::done(linked::start(t, m))
+    }
+
+    /// Stops the layer: every call but a start is then refused with [`Error::Stopped`].
+    pub fn stop(&mut self) -> Result<(), Error> {
+        let (t, m) = self.lent();
+        answers::done(linked::stop(t, m))
+    }
+
+    /// Sends a value: delivers it to the receivers inside, and if the filter passes it, packs it
+    /// into its I-PDU and requests that, now or when it may go. A dropped value is no error.
+    pub fn send(
+        &mut self,
+        area: &mut Area,
+        object: ObjectNumber,
+        value: u32,
+    ) -> Result<Requests, Error> {
+        let (t, m) = self.lent();
+        answers::value(linked::send(t, m, area, object.0, value)).map(Requests::of)
+    }
+
+    /// Sets the value of an object, with no filter and no request. A queue is emptied.
+    pub fn initialise(&mut self, object: ObjectNumber, value: u32) -> Result<(), Error> {
+        let (t, m) = self.lent();
+        answers::done(linked::initialise(t, m, object.0, value))
+    }
+
+    /// The value of a receive object, each time; of a queue the oldest, which is removed.
+    pub fn receive(&mut self, object: ObjectNumber) -> Result<Received, Error> {
+        let (t, m) = self.lent();
+        answers::received(linked::receive(t, m, object.0))
+    }
+
+    /// How the queue of a receive object stands; [`Error::NoMessage`] where it is empty.
+    pub fn status(&self, object: ObjectNumber) -> Result<Status, Error> {
+        answers::status(linked::status(self.table.bytes(), self.memory.bytes(), object.0))
+    }
+
+    /// The marks of an object.
+    pub fn marks(&self, object: ObjectNumber) -> Result<Marks, Error> {
+        answers::marks(linked::marks(self.table.bytes(), self.memory.bytes(), object.0))
+    }
+
+    /// Clears the marks of an object.
+    pub fn clear_marks(&mut self, object: ObjectNumber) -> Result<(), Error> {
+        let (t, m) = self.lent();
+        answers::done(linked::clear_marks(t, m, object.0))
+    }
+
+    /// Sets the countdown of each periodic or mixed I-PDU to its time offset, and lets it run.
+    pub fn start_periodic(&mut self) -> Result<(), Error> {
+        let (t, m) = self.lent();
+        answers::done(linked::start_periodic(t, m))
+    }
+
+    /// Halts the countdowns. Requests that were postponed stay so.
+    pub fn stop_periodic(&mut self) -> Result<(), Error> {
+        let (t, m) = self.lent();
+        answers::done(linked::stop_periodic(t, m))
+    }
+
+    /// An I-PDU has arrived: its bytes go to its objects and its receive timer begins anew. Not
+    /// good, its objects are marked with a receive error and the bytes are not looked at.
+    pub fn indication(
+        &mut self,
+        ipdu: IpduNumber,
+        outcome: Outcome,
+        bytes: &[u8],
+    ) -> Result<(), Error> {
+        let (t, m) = self.lent();
+        answers::done(linked::indication(t, m, ipdu.0, outcome == Outcome::Good, bytes))
+    }
+
+    /// The bus has done with a requested I-PDU: the request closes, and the objects of the I-PDU
+    /// are marked as sent or with a send error.
+    pub fn confirm(&mut self, ipdu: IpduNumber, outcome: Outcome) -> Result<(), Error> {
+        let (t, m) = self.lent();
+        answers::done(linked::confirm(t, m, ipdu.0, outcome == Outcome::Good))
+    }
+
+    /// One tick of the timer: delays, deadlines, periods and receive timers go on by one, and
+    /// the requests that may go now are made.
+    pub fn tick(&mut self, area: &mut Area) -> Result<Requests, Error> {
+        let (t, m) = self.lent();
+        answers::value(linked::tick(t, m, area)).map(Requests::of)
+    }
+
+    fn lent(&mut self) -> (&'t [u8], &mut [u8]) {
+        (self.table.bytes(), self.memory.bytes_mut())
+    }
+}
