@@ -1,5 +1,5 @@
 #!/usr/bin/env bash
-# The C headers, as C99 and as C++: each alone, the examples with their output, and the tests of tests/c. Needs
+# README's program; the C headers, as C99 and as C++: each alone, the examples with their output, and the tests of tests/c. Needs
 # target/staticlib/libexports.a, gcc and g++.
 set -euo pipefail
 cd "$(dirname "${BASH_SOURCE[0]}")/.."
@@ -13,6 +13,11 @@ trap 'rm -rf "$out"' EXIT
 
 c99() { gcc -std=c99 -Wall -Wextra -Wpedantic -Werror -Iinclude -x c "$@"; }
 cxx() { g++ -Wall -Wextra -Werror -Iinclude -x c++ "$@"; }
+
+# the program that README shows
+awk '/^```c$/ { on = 1; next } /^```$/ { on = 0 } on' README.md > "$out/readme.c"
+c99 "$out/readme.c" -x none "$archive" -o "$out/readme"
+[ "$("$out/readme")" = "00 80 57 01" ] || { echo "c.sh: README's program prints something else" >&2; exit 1; }
 
 for language in c99 cxx; do
     for header in include/*.h; do
