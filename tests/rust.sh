@@ -17,6 +17,7 @@ tests=$(awk '/^test result: ok/ { n += $4 } END { print n + 0 }' "$out/said")
 cargo run --offline --locked --quiet --example firmware > "$out/stdout"
 diff examples/firmware.stdout "$out/stdout" || { echo "rust: the firmware example prints something else" >&2; exit 1; }
 # the function that README shows
+quietly cargo build --offline --locked
 awk '/^```rust$/ { on = 1; next } /^```$/ { on = 0 } on' ../../README.md > "$out/readme.rs"
 quietly rustc --edition 2021 -D warnings --crate-type lib --emit metadata -o "$out/readme.rmeta" "$out/readme.rs" \
     -L "$CARGO_TARGET_DIR/debug/deps" --extern birnenschloss="$CARGO_TARGET_DIR/debug/libbirnenschloss.rlib"
