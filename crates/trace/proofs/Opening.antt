@@ -60,7 +60,6 @@ module _ (t : List ℕ) (c : Counts) (right : Right t c) (bt : Bytes t) where
   no-bits k h =
       fold-view (part (slotAt k) 8) (c .ipdus) (startIpdu t) blank
       (λ j b.
-      let l = fold j (startIpdu t) blank in
       let x = begun t c right bt j (omega (arith, b)) in
       ipdu-part (fold j (startIpdu t) blank) j (idle (firstTimer (ipdu t j .direction) (ipdu t j)))
       (omega (arith, x .long, b, right .shape .ipdus)) (slotAt k) 8 (inr (omega (arith, b, right .shape .ipdus))))

@@ -54,7 +54,6 @@ module _ (t : List ℕ) (c : Counts) where
 
     initialise-receive : (objectRecord t (c .ipdus) i .kind ≡ 1 → ⊥) → Agrees t c b (initialiseAs Receive (object t c i) i v m)
     initialise-receive received =
-        let s : ObjectState = withOld v (withValue v (withQueue 0 0 0 (objectState m i))) in
         let kept =
         kept-old (objectRecord t (c .ipdus) i .depth) (depths t c i) v (withValue v (withQueue 0 0 0 (objectState m i))) small
         (kept-value (objectRecord t (c .ipdus) i .depth) (depths t c i) v (withQueue 0 0 0 (objectState m i)) small

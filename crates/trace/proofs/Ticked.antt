@@ -11,16 +11,18 @@ use Rattle.memory.proofs.Search.{picked}
 use Rattle.table.specs.declared.Counts.{Counts}
 use Rattle.table.specs.declared.Direction.{Direction}
 use Rattle.table.specs.declared.Direction.the-variants.{Send, Receive}
+use Rattle.table.specs.declared.Ipdu.{Ipdu}
 use Rattle.state.specs.declared.IpduState.{IpduState}
 use Rattle.state.specs.Layout.{ipduState}
 use Rattle.state.specs.Ranges.{Ready}
 use Rattle.message.specs.Delivery.{markObjects}
 use Rattle.transmission.specs.Requests.{ipdu, offered, handed}
 use Rattle.transmission.specs.Ticks.{delayed, expires, aged, counted, late, watched}
-use Rattle.transmission.proofs.Kept.{kept-offered, ready-send-kept, ready-receive, ready-receive-kept}
+use Rattle.transmission.proofs.Kept.{SendKept, kept-offered, ready-send-kept, ReceiveKept, ready-receive, ready-receive-kept}
 use Rattle.transmission.proofs.Ticked.{kept-delayed, kept-aged, kept-counted, kept-watched}
+use Rattle.layer.specs.declared.Answer.the-variants.{Done}
 use Rattle.layer.specs.Answers.{Outcome, valueOf}
-use Rattle.layer.specs.Tick.{Ticked, tickAs, tickIpdu, tickTurn, ticks, tickIn}
+use Rattle.layer.specs.Tick.{Ticked, sendTick, receiveTick, tickAs, tickIpdu, tickTurn, ticks, tickIn}
 use Rattle.layer.specs.Step.{areaSize}
 use Rattle.layer.proofs.Laws.{sends-one}
 use Rattle.layer.proofs.Ticks.{tick-word, word-more}
@@ -42,30 +44,36 @@ module _ (t : List ℕ) (c : Counts) where
     unseen : Unseen t c m (o .memory)
     offer : Offer t c k area m o
 
-  turn-as : (k : ℕ) → k < c .ipdus → (area m : List ℕ) → Ready t c m → (d : Direction) → ipdu t k .direction ≡ d → Turn k area m (tickAs d t c k area m)
-  turn-as k h area m ready Send e =
-      let u = unseen-due (expires (delayed (ipduState m k))) k 8 (omega arith) m ready in
-      record {
-        unseen =
-            unseen-then t c m (pick (expires (delayed (ipduState m k))) (markObjects t c k 8 m) m) _ u
-            (unseen-send t c k h e (offered (ipdu t k) (counted (ipdu t k) (aged (delayed (ipduState m k))))) (pick (expires (delayed (ipduState m k))) (markObjects t c k 8 m) m) (u .ready)
-            (kept-offered (ipdu t k) (counted (ipdu t k) (aged (delayed (ipduState m k))))
-            (kept-counted (ipdu t k) (aged (delayed (ipduState m k)))
-            (kept-aged (ipdu t k) (delayed (ipduState m k)) (kept-delayed (ipdu t k) (ipduState m k) (ready-send-kept t c m ready k h e))))));
-        offer =
-            offer-cases t c (ready .right) k h (sends-one t k e) (counted (ipdu t k) (aged (delayed (ipduState m k)))) area
-            (pick (expires (delayed (ipduState m k))) (markObjects t c k 8 m) m) m (u .same .slot k h (sends-one t k e));
-      }
-  turn-as k h area m ready Receive e =
-      let u = unseen-due (late (ipduState m k)) k 4 (omega arith) m ready in
-      record {
-        unseen =
-            unseen-then t c m (pick (late (ipduState m k)) (markObjects t c k 4 m) m) _ u
-            (unseen-ipdu t c k h (watched (ipdu t k) (ipduState m k)) (pick (late (ipduState m k)) (markObjects t c k 4 m) m) (u .ready)
-            (ready-receive t c (pick (late (ipduState m k)) (markObjects t c k 4 m) m) (u .ready) k h e (watched (ipdu t k) (ipduState m k))
-            (kept-watched (ipdu t k) (ipduState m k) (ready-receive-kept t c m ready k h e))));
-        offer = quiet refl refl;
-      }
+  module _ (k : ℕ) (h : k < c .ipdus) (area m : List ℕ) (ready : Ready t c m) where
+    send-turn : ipdu t k .direction ≡ Send → (s : IpduState) → SendKept (ipdu t k) s → Turn k area m (sendTick t c k s area m)
+    send-turn d s kept =
+        let p : Ipdu = ipdu t k in
+        let n : List ℕ = pick (expires s) (markObjects t c k 8 m) m in
+        let u = unseen-due (expires s) k 8 (omega arith) m ready in
+        let next : IpduState = counted p (aged s) in
+        let one = sends-one t k d in
+        record {
+          unseen =
+              unseen-then t c m n _ u
+              (unseen-send t c k h d (offered p next) n (u .ready) (kept-offered p next (kept-counted p (aged s) (kept-aged p s kept))));
+          offer = offer-cases t c (ready .right) k h one next area n m (u .same .slot k h one);
+        }
+
+    receive-turn : ipdu t k .direction ≡ Receive → (s : IpduState) → ReceiveKept (ipdu t k) s → Turn k area m (receiveTick t c k s area m)
+    receive-turn d s kept =
+        let p : Ipdu = ipdu t k in
+        let n : List ℕ = pick (late s) (markObjects t c k 4 m) m in
+        let u = unseen-due (late s) k 4 (omega arith) m ready in
+        record {
+          unseen =
+              unseen-then t c m n _ u
+              (unseen-ipdu t c k h (watched p s) n (u .ready) (ready-receive t c n (u .ready) k h d (watched p s) (kept-watched p s kept)));
+          offer = quiet refl refl;
+        }
+
+    turn-as : (d : Direction) → ipdu t k .direction ≡ d → Turn k area m (tickAs d t c k area m)
+    turn-as Send d = send-turn d (delayed (ipduState m k)) (kept-delayed (ipdu t k) (ipduState m k) (ready-send-kept t c m ready k h d))
+    turn-as Receive d = receive-turn d (ipduState m k) (ready-receive-kept t c m ready k h d)
 
   turn : (k : ℕ) → k < c .ipdus → (area m : List ℕ) → Ready t c m → Turn k area m (tickIpdu t c k area m)
   unfolding tickIpdu
@@ -138,17 +146,13 @@ module _ (t : List ℕ) (c : Counts) where
     turns-area zero = (refl, refl)
     turns-area (suc n) =
         let e = turns-area n in
-        let x : Ticked = ticks t c n area m in
-        let y : Ticked = ticks t c n other m in
         let same = ipdu-area n (ticks t c n area m .area) (ticks t c n other m .area) (ticks t c n area m .memory) in
-        let o : List ℕ → Outcome = tickIpdu t c n (ticks t c n other m .area) in (
-          sum (e .0) (ap (λ (a : Rattle.layer.specs.declared.Answer.Answer). valueOf a) (same .0) ∙ ap (λ (l : List ℕ). valueOf (tickIpdu t c n (ticks t c n other m .area) l .answer)) (e .1)),
-          same .1 ∙ ap (λ (l : List ℕ). tickIpdu t c n (ticks t c n other m .area) l .memory) (e .1),
-        )
+        let o : List ℕ → Outcome = tickIpdu t c n (ticks t c n other m .area) in
+        (sum (e .0) (ap valueOf (same .0) ∙ ap (λ (l : List ℕ). valueOf (o l .answer)) (e .1)), same .1 ∙ ap (λ (l : List ℕ). o l .memory) (e .1))
       where
         sum : {a b x y : ℕ} → a ≡ b → x ≡ y → a + x ≡ b + y
         sum p q = rw (p, q)
 
     pub tick-area : (tickIn t c area m .answer ≡ tickIn t c other m .answer) × (tickIn t c area m .memory ≡ tickIn t c other m .memory)
     unfolding tickIn
-    tick-area = let e = turns-area (c .ipdus) in (ap Rattle.layer.specs.declared.Answer.the-variants.Done (e .0), e .1)
+    tick-area = let e = turns-area (c .ipdus) in (ap Done (e .0), e .1)
