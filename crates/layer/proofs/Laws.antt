@@ -22,7 +22,7 @@ use Rattle.table.specs.declared.Verdict.{Verdict}
 use Rattle.table.specs.declared.Verdict.the-variants.{Accepted, WrongHeader, WrongIpdu, WrongObject}
 use Rattle.table.specs.Records.{none, ipduRecord, objectRecord}
 use Rattle.table.specs.Check.{check}
-use Rattle.table.specs.Decode.{ipduOf, objectOf}
+use Rattle.table.specs.Decode.{ipduOf, objectOf, Right}
 use Rattle.table.proofs.Accepted.{accepted-right, Usable, usable}
 use Rattle.table.proofs.Facts.{IpduFacts, ipdu-facts}
 use Rattle.state.specs.Layout.{memorySize, stoppedAt, objectState, withObjectState}
@@ -144,8 +144,8 @@ module _ (t : List ℕ) where
   object-receives c i e = rw e
 
 -- an I-PDU has at most 8 bytes
-pub ipdu-short : (t : List ℕ) (c : Counts) (m : List ℕ) → Ready t c m → (k : ℕ) → k < c .ipdus → ipduRecord t k .length ≤ 8
-ipdu-short t c m ready k h = ipdu-facts (ipduRecord t k) (ready .right .ipdus k h) .most
+pub ipdu-short : (t : List ℕ) (c : Counts) → Right t c → (k : ℕ) → k < c .ipdus → ipduRecord t k .length ≤ 8
+ipdu-short t c right k h = ipdu-facts (ipduRecord t k) (right .ipdus k h) .most
 
 pub has-ipdu : (t : List ℕ) (c : Counts) (m : List ℕ) → Ready t c m → (i : ℕ) → i < c .objects → HasIpdu t (object t c i)
 unfolding objectOf ipduOf
@@ -153,7 +153,7 @@ has-ipdu t c m ready i h =
     record {
       number = λ e. omega (arith, low e, ready .right .shape .ipdus);
       inside = λ e. omega (arith, low e, ready .right .shape .long);
-      few = λ e. ipdu-short t c m ready (objectRecord t (c .ipdus) i .ipdu) (low e);
+      few = λ e. ipdu-short t c (ready .right) (objectRecord t (c .ipdus) i .ipdu) (low e);
     }
   where
     low : eqb (objectRecord t (c .ipdus) i .ipdu) none ≡ false → objectRecord t (c .ipdus) i .ipdu < c .ipdus

@@ -10,19 +10,18 @@ use Rattle.memory.specs.Search.{pick}
 use Rattle.table.specs.declared.Counts.{Counts}
 use Rattle.table.specs.declared.Direction.{Direction}
 use Rattle.table.specs.declared.Direction.the-variants.{Send, Receive}
-use Rattle.table.specs.Records.{ipduRecord}
 use Rattle.table.specs.Decode.{ipduOf, Right}
-use Rattle.table.proofs.Facts.{ipdu-facts}
 use Rattle.state.specs.Layout.{ipduState}
 use Rattle.transmission.specs.Requests.{ipdu, goes}
-use Rattle.transmission.specs.Ticks.{delayed, aged, counted}
+use Rattle.transmission.specs.Ticks.{delayed, aged, countedDown}
 use Rattle.layer.specs.Answers.{Outcome, valueOf}
+use Rattle.layer.proofs.Laws.{ipdu-short}
 use Rattle.layer.specs.Tick.{tickAs, tickIpdu}
 
 -- an I-PDU of a right table has at most 8 bytes
 pub ipdu-few : (t : List ℕ) (c : Counts) → Right t c → (k : ℕ) → k < c .ipdus → ipdu t k .length .0 ≤ 8
 unfolding ipduOf
-ipdu-few t c right k h = ipdu-facts (ipduRecord t k) (right .ipdus k h) .most
+ipdu-few t c right k h = ipdu-short t c right k h
 
 -- the answer of one I-PDU is 0 or its own bit
 pub tick-word : (t : List ℕ) (c : Counts) (k : ℕ) (area m : List ℕ) → valueOf (tickIpdu t c k area m .answer) ≤ 2 ^ k
@@ -34,7 +33,7 @@ tick-word t c k area m = by (ipdu t k .direction)
     either false = omega arith
 
     by : (d : Direction) → valueOf (tickAs d t c k area m .answer) ≤ 2 ^ k
-    by Send = either (goes (ipdu t k) (counted (ipdu t k) (aged (delayed (ipduState m k)))))
+    by Send = either (goes (ipdu t k) (countedDown (ipdu t k) (aged (delayed (ipduState m k)))))
     by Receive = omega arith
 
 -- a word of k bits and the next bit make one of k + 1 bits

@@ -11,7 +11,7 @@ use Rattle.state.specs.Layout.{ipduState, withIpduState}
 use Rattle.message.specs.Objects.{receiveError, sendError}
 use Rattle.message.specs.Delivery.{markObjects}
 use Rattle.transmission.specs.Requests.{ipdu}
-use Rattle.transmission.specs.Ticks.{delayed, expires, aged, counted, late, watched}
+use Rattle.transmission.specs.Ticks.{delayed, expires, aged, countedDown, late, watched}
 use Rattle.layer.specs.declared.Answer.the-variants.{Done}
 use Rattle.layer.specs.Answers.{Outcome, outcome, valueOf}
 use Rattle.layer.specs.Calls.{offerOf}
@@ -19,7 +19,7 @@ use Rattle.layer.specs.Calls.{offerOf}
 -- a send I-PDU: the delay, then the deadline, with send error on its objects where that runs out, then the period, then the request
 abbrev pub sendTick : List ℕ → Counts → ℕ → IpduState → List ℕ → List ℕ → Outcome
 sendTick t c k s area m =
-    offerOf (ipdu t k) k (counted (ipdu t k) (aged s)) area (pick (expires s) (markObjects t c k sendError m) m)
+    offerOf (ipdu t k) k (countedDown (ipdu t k) (aged s)) area (pick (expires s) (markObjects t c k sendError m) m)
 
 -- a receive I-PDU: the timer, with receive error on its objects where that runs out
 abbrev pub receiveTick : List ℕ → Counts → ℕ → IpduState → List ℕ → List ℕ → Outcome

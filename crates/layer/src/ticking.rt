@@ -63,7 +63,7 @@ fn tick_send(t: &[u8], c: Counts, m: &mut [u8], area: &mut [u8], number: IpduNum
 {
     let s = transmission::delayed(state::ipdu_state(m, number));
     mark_where(t, c, m, number, SEND_ERROR, transmission::expires(s));
-    let next = transmission::counted(p, transmission::aged(s));
+    let next = transmission::counted_down(p, transmission::aged(s));
     transmission::offer(m, area, number, p, next)
 }
 
@@ -78,7 +78,7 @@ fn tick_receive(t: &[u8], c: Counts, m: &mut [u8], number: IpduNumber, p: Ipdu)
     state::set_ipdu_state(m, number, transmission::watched(p, s));
 }
 
-// Marks the objects of an I-PDU, where a time of its has run out.
+// Marks the objects of an I-PDU, where one of its times has run out.
 fn mark_where(t: &[u8], c: Counts, m: &mut [u8], number: IpduNumber, mark: u32, due: bool)
     requires { ⌜ Shape (now t) c ⌝ }
     requires { ⌜ memorySize ≤ length (now m) ⌝ }

@@ -150,7 +150,7 @@ module _ (t : List ℕ) (c : Counts) (accepted : check t ≡ Accepted c) (bt : B
           named = x .named;
           bits = λ k e p low.
               let n = x .named k e in
-              let few = ipdu-short t c (front (step t call m .memory)) (next .ready) k (n .0) in
+              let few = ipdu-short t c (next .ready .right) k (n .0) in
               ap (λ (g : List ℕ). frameBit g p) (x .slot k e)
               ∙ short-bit (slotAt k) (ipduRecord t k .length) (front (step t call m .memory)) p few (omega (arith, n .0, next .ready .right .shape .ipdus, next .ready .long)) low
               ∙ next .bits k (n .0) (n .1) p (omega (arith, low, few));

@@ -17,12 +17,12 @@ use Rattle.message.specs.Delivery.{deliverInside, deliverFrame, markObjects}
 use Rattle.transmission.specs.Requests.{goes, made, offered, handed, confirmed, periodSet, setPeriods, timerSet}
 use Rattle.layer.specs.Answers.{admission}
 use Rattle.layer.specs.Calls.{stopIn, wants, request, sendOf, sendIn, initialiseIn, receiveIn, statusIn, marksIn, clearMarksIn, periodicIn, indicationIn, confirmIn}
-use Rattle.transmission.specs.Ticks.{delayed, expires, aged, fires, counted, late, watched}
+use Rattle.transmission.specs.Ticks.{delayed, expires, aged, fires, countedDown, late, watched}
 use Rattle.layer.specs.Tick.{tickIpdu, tickIn}
 use Rattle.layer.specs.Start.{blank, started, startCall}
 use Rattle.layer.specs.Step.{step}
 use Rattle.trace.specs.Cases.{AllHold, cases}
 
 pub cases-hold : AllHold cases
-unfolding value bytesOf part get replaced bit frameBit place room number frame written packed unpacked owns position passes filterOf filterRight counts ipduRecord objectRecord offsetsRight headerRight ipduRight references objectRight shareBit overlapsLower check ipduOf objectOf stoppedAt ipduState withIpduState objectState withObjectState ipduInRange objectInRange inRange marked filtered delivered deliver oldest take pack unpack initialise deliverInside deliverFrame markObjects goes made offered handed confirmed periodSet setPeriods timerSet admission stopIn wants request sendOf sendIn initialiseIn receiveIn statusIn marksIn clearMarksIn periodicIn indicationIn confirmIn blank started startCall delayed expires aged fires counted late watched tickIpdu tickIn step
+unfolding value bytesOf part get replaced bit frameBit place room number frame written packed unpacked owns position passes filterOf filterRight counts ipduRecord objectRecord offsetsRight headerRight ipduRight references objectRight shareBit overlapsLower check ipduOf objectOf stoppedAt ipduState withIpduState objectState withObjectState ipduInRange objectInRange inRange marked filtered delivered deliver oldest take pack unpack initialise deliverInside deliverFrame markObjects goes made offered handed confirmed periodSet setPeriods timerSet admission stopIn wants request sendOf sendIn initialiseIn receiveIn statusIn marksIn clearMarksIn periodicIn indicationIn confirmIn blank started startCall delayed expires aged fires countedDown late watched tickIpdu tickIn step
 cases-hold = ((refl, refl), ((refl, refl), ((refl, refl), (refl, (refl, (refl, (refl, (refl, (refl, (refl, (refl, (refl, (refl, tt)))))))))))))

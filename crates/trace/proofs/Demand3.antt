@@ -14,7 +14,7 @@ use Rattle.trace.specs.Demand3.{done, CallKept, AllAlike, SameAnswer, De
 use Rattle.trace.proofs.Hands.{hands-none}
 use Rattle.trace.proofs.Lists.{start-accepted, start-follows}
 use Rattle.trace.proofs.Calls.{list-kept}
-use Rattle.trace.proofs.Pairs.{start-twin, lists-same}
+use Rattle.trace.proofs.Pairs.{start-same, lists-same}
 
 -- the accepted start that a list begins with
 first-kept : (t m : List ℕ) → done (step t start m) ≡ true → CallKept t (counts t) unopened start (step t start m)
@@ -27,7 +27,7 @@ demand-3 t bt xs ys p q m n em en =
     let z = start-accepted t n en in
     let f = start-follows t (counts t) (a .table) bt m (a .long) in
     let g = start-follows t (counts t) (a .table) bt n (z .long) in
-    let w = start-twin t (counts t) (a .table) bt m n (a .long) (z .long) in (
+    let w = start-same t (counts t) (a .table) bt m n (a .long) (z .long) in (
       (first-kept t m em, list-kept t (counts t) (a .table) bt xs p (opened t (counts t)) (step t start m .memory) f),
       λ alike. (
         record {

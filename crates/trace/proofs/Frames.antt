@@ -38,9 +38,10 @@ use Rattle.message.proofs.Apart.{inside-row, frame-row}
 use Rattle.transmission.specs.Requests.{ipdu, timerSet}
 use Rattle.layer.specs.declared.Answer.the-variants.{Done}
 use Rattle.layer.specs.Answers.{Outcome, outcome, valueOf}
-use Rattle.layer.specs.Calls.{isObject, request, sendOf, sendIn, receiveIn, timed, indicationOf}
+use Rattle.layer.specs.Calls.{isObject, request, sendOf, sendIn, receiveIn, timed, indicationOf, wants}
 use Rattle.layer.proofs.Laws.{object-there, object-kind, wants-some, ipdu-short, has-ipdu}
-use Rattle.trace.proofs.Rows.{pack-row, pack-holds, Handed, request-hands, request-rows}
+use Rattle.trace.proofs.Rows.{pack-row, pack-holds, request-rows}
+use Rattle.trace.proofs.Hands.{offer-frame, request-offer}
 
 -- ---- bits: a frame is the first bytes of the slot that was packed
 
@@ -143,17 +144,21 @@ module _ (t : List ℕ) (c : Counts) (m : List ℕ) (ready : Ready t c m) (i : �
         (packed (object t c i .order) (startBit (object t c i)) (object t c i .size .0) v (part (slotAt (object t c i .ipdu .0)) 8 after))
 
   pub sent : 256 ≤ length area → (valueOf (sendIn t c i v area m .answer) ≡ 0 → ⊥) → Sent
-  sent long made =
-      ⊎-elim
-      (λ (p : judge ≡ true).
-      let hands = request-hands t o area (pack o v after) packed-placed (has-ipdu t c m ready i here) long (λ e. made (rw (sent-as true p) e)) in
-      let some = wants-some t o (hands .wanted) in
-      record { some = some; frame = rw (sent-as true p) (hands .frame ∙ held some) })
-      (λ (p : judge ≡ false). absurd (made (rw (sent-as false p))))
-      (true-or-false judge)
+  sent long made = ⊎-elim passed (λ (p : judge ≡ false). absurd (made (rw (sent-as false p)))) (true-or-false judge)
     where
       o : Object
       o = object t c i
+
+      idle : wants t o ≡ false → valueOf (request t o area (pack o v after) .answer) ≡ 0
+      idle w = unfold request in rw w
+
+      handed : wants t o ≡ true → (valueOf (request t o area (pack o v after) .answer) ≡ 0 → ⊥)
+          → part (8 * (o .ipdu .0)) (ipdu t (o .ipdu .0) .length .0) (request t o area (pack o v after) .area)
+          ≡ part (slotAt (o .ipdu .0)) (ipdu t (o .ipdu .0) .length .0) (pack o v after)
+      handed w some =
+          unfold ipduOf objectOf in
+          offer-frame t c (ready .right) (objectRecord t (c .ipdus) i .ipdu) (low-ipdu t c (ready .right) i here (wants-some t o w)) area (pack o v after) long
+          (pack-length o v after placed-after ∙ after-ready .long) (request t o area (pack o v after)) (request-offer t c (ready .right) i is w area (pack o v after)) some
 
       held : eqb (o .ipdu .0) none ≡ false
           → part (slotAt (o .ipdu .0)) (ipdu t (o .ipdu .0) .length .0) (pack o v after)
@@ -161,6 +166,15 @@ module _ (t : List ℕ) (c : Counts) (m : List ℕ) (ready : Ready t c m) (i : �
       held some =
           sym (part-front (slotAt (o .ipdu .0)) (ipdu t (o .ipdu .0) .length .0) 8 (pack o v after) (has-ipdu t c m ready i here .few some))
           ∙ ap (take (ipdu t (o .ipdu .0) .length .0)) (pack-holds o v after placed-after some)
+
+      passed : judge ≡ true → Sent
+      passed p =
+          ⊎-elim
+          (λ (w : wants t o ≡ true).
+          let some = wants-some t o w in
+          record { some = some; frame = rw (sent-as true p) (handed w (λ e. made (rw (sent-as true p) e)) ∙ held some) })
+          (λ (w : wants t o ≡ false). absurd (made (rw (sent-as true p) (idle w))))
+          (true-or-false (wants t o))
 
   module _ (s : Sent) where
     eight : length (part (slotAt (object t c i .ipdu .0)) 8 after) ≡ 8
@@ -254,7 +268,7 @@ module _ (t : List ℕ) (c : Counts) (m : List ℕ) (ready : Ready t c m) (j : �
   in-table = low-ipdu t c (ready .right) j below some
 
   few : ipduRecord t (objectRecord t (c .ipdus) j .ipdu) .length ≤ 8
-  few = ipdu-short t c m ready (objectRecord t (c .ipdus) j .ipdu) in-table
+  few = ipdu-short t c (ready .right) (objectRecord t (c .ipdus) j .ipdu) in-table
 
   slot-room : slotAt (objectRecord t (c .ipdus) j .ipdu) + length f ≤ length m
   slot-room = omega (arith, in-table, few, long, ready .long, ready .right .shape .ipdus)

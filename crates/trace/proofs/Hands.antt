@@ -3,7 +3,7 @@
 use mathlib.Core.Bool.{Bool, true, false}
 use mathlib.Core.List.{List}
 use mathlib.Core.Logic.{_⊎_, ⊎-elim}
-use mathlib.Core.Path.{_≡_, sym, ap, _∙_}
+use mathlib.Core.Path.{_≡_, refl, sym, ap, _∙_}
 use Prim.Native.Nat.{ℕ, suc, _+_, _-_, _*_, _^_, _≤_, _<_}
 use native.Mathlib.Nat.{add-zero}
 use native.Mathlib.Omega.{arith}
@@ -13,15 +13,18 @@ use Rattle.memory.proofs.Laws.{part-front}
 use Rattle.memory.proofs.Tests.{true-or-false}
 use Rattle.bits.proofs.Numbers.{bit-of-zero, bit-added}
 use Rattle.table.specs.declared.Counts.{Counts}
-use Rattle.table.specs.Records.{ipduRecord}
-use Rattle.table.specs.Decode.{ipduOf, Right}
-use Rattle.table.proofs.Facts.{ipdu-facts}
+use Rattle.table.specs.Records.{ipduRecord, objectRecord}
+use Rattle.table.specs.Decode.{ipduOf, objectOf, Right}
+use Rattle.table.proofs.Accepted.{Usable, usable}
 use Rattle.state.specs.declared.IpduState.{IpduState}
-use Rattle.state.specs.Layout.{memorySize, slotAt}
+use Rattle.state.specs.Layout.{memorySize, slotAt, ipduState}
+use Rattle.message.specs.Objects.{object}
+use Rattle.state.specs.Updates.{withWanted}
 use Rattle.transmission.specs.Requests.{ipdu, goes, handed}
 use Rattle.layer.specs.Answers.{Outcome, valueOf}
-use Rattle.layer.specs.Calls.{offerOf}
+use Rattle.layer.specs.Calls.{isObject, wants, offerOf, request}
 use Rattle.layer.specs.Step.{areaSize}
+use Rattle.layer.proofs.Laws.{object-there, object-kind, ipdu-short, wants-some}
 use Rattle.trace.specs.Demand3.{names}
 use Rattle.trace.proofs.Rows.{handed-front, handed-length, handed-other, handed-same}
 
@@ -30,9 +33,6 @@ pub hands-none : (k : ℕ) → names 0 k → ⊥
 hands-none k e = omega (arith, e, bit-of-zero k)
 
 module _ (t : List ℕ) (c : Counts) where
-  short : Right t c → (k : ℕ) → k < c .ipdus → ipduRecord t k .length ≤ 8
-  short right k h = ipdu-facts (ipduRecord t k) (right .ipdus k h) .most
-
   pub record Hands (word : ℕ) (area m : List ℕ) : Type 0 where
     pub named : (k : ℕ) → names word k → (k < c .ipdus) × (ipduRecord t k .direction ≡ 1)
     pub slot : (k : ℕ) → names word k → part (8 * k) (ipduRecord t k .length) area ≡ part (slotAt k) (ipduRecord t k .length) m
@@ -45,7 +45,7 @@ module _ (t : List ℕ) (c : Counts) where
         named = x .named;
         slot = λ k e.
             let n = x .named k e in
-            let few = short right k (n .0) in
+            let few = ipdu-short t c right k (n .0) in
             x .slot k e
             ∙ sym (part-front (slotAt k) (ipduRecord t k .length) 8 l few)
             ∙ ap (take (ipduRecord t k .length)) (sym (same k (n .0) (n .1)))
@@ -63,14 +63,31 @@ module _ (t : List ℕ) (c : Counts) where
   offer-cases right k h d s area n m e =
       ⊎-elim
       (λ (g : goes (ipdu t k) s ≡ true).
-      requested d (rw g) (rw g (handed-same (ipduRecord t k .length) k n m area (short right k h) e)))
+      requested d (rw g) (rw g (handed-same (ipduRecord t k .length) k n m area (ipdu-short t c right k h) e)))
       (λ (g : goes (ipdu t k) s ≡ false). quiet (rw g) (rw g))
       (true-or-false (goes (ipdu t k) s))
 
   pub offer-from : Right t c → (k : ℕ) → k < c .ipdus → (area l m : List ℕ) (o : Outcome)
       → (ipduRecord t k .direction ≡ 1 → part (slotAt k) 8 l ≡ part (slotAt k) 8 m) → Offer k area l o → Offer k area m o
   offer-from right k h area l m o same (quiet v a) = quiet v a
-  offer-from right k h area l m o same (requested d v a) = requested d v (a ∙ handed-same (ipduRecord t k .length) k l m area (short right k h) (same d))
+  offer-from right k h area l m o same (requested d v a) = requested d v (a ∙ handed-same (ipduRecord t k .length) k l m area (ipdu-short t c right k h) (same d))
+
+  -- the frame of an I-PDU that was requested
+  pub offer-frame : Right t c → (k : ℕ) → k < c .ipdus → (area m : List ℕ) → areaSize ≤ length area → length m ≡ memorySize → (o : Outcome)
+      → Offer k area m o → (valueOf (o .answer) ≡ 0 → ⊥) → part (8 * k) (ipduRecord t k .length) (o .area) ≡ part (slotAt k) (ipduRecord t k .length) m
+  offer-frame right k h area m fits size o (quiet v a) made = absurd (made v)
+  offer-frame right k h area m fits size o (requested d v a) made =
+      let low : k < 32 = omega (arith, h, right .shape .ipdus) in
+      rw a (handed-front (ipduRecord t k .length) k m area (ipdu-short t c right k h) low fits (omega (arith, low, size)))
+
+  -- the request that a passed value wants
+  pub request-offer : Right t c → (i : ℕ) → isObject t c 1 i ≡ true → wants t (object t c i) ≡ true → (area m : List ℕ)
+      → Offer (objectRecord t (c .ipdus) i .ipdu) area m (request t (object t c i) area m)
+  unfolding request objectOf
+  request-offer right i is w area m =
+      let k : ℕ = objectRecord t (c .ipdus) i .ipdu in
+      let there = usable t c right i (object-there t c 1 i is) .ipdu (wants-some t (object t c i) w) in
+      rw w (offer-cases right k (there .0) (there .1 ∙ object-kind t c 1 i is) (withWanted 1 (ipduState m k)) area m m refl)
 
   -- ---- one more I-PDU
 
@@ -82,7 +99,7 @@ module _ (t : List ℕ) (c : Counts) where
   module _ (right : Right t c) (n w : ℕ) (h : n < c .ipdus) (area m : List ℕ) (fits : areaSize ≤ length area) (size : length m ≡ memorySize)
       (under : w < 2 ^ n) (below : (k : ℕ) → names w k → k < n) (x : Hands w area m) where
     few : ipduRecord t n .length ≤ 8
-    few = short right n h
+    few = ipdu-short t c right n h
 
     low : n < 32
     low = omega (arith, h, right .shape .ipdus)
@@ -99,7 +116,7 @@ module _ (t : List ℕ) (c : Counts) where
               ⊎-elim
               (λ (y : k ≡ n). rw y (handed-front (ipduRecord t n .length) n m area few low fits room))
               (λ (y : (k < n) × names w k).
-              handed-other (ipduRecord t n .length) n m area few low fits room k (ipduRecord t k .length) (y .0) (short right k (x .named k (y .1) .0))
+              handed-other (ipduRecord t n .length) n m area few low fits room k (ipduRecord t k .length) (y .0) (ipdu-short t c right k (x .named k (y .1) .0))
               ∙ x .slot k (y .1))
               (bit-added n w k under e);
         }

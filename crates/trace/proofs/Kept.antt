@@ -129,9 +129,10 @@ filtered-passed : (b : Bool) (v : ℕ) (s : ObjectState) → b ≡ true → filt
 unfolding filtered
 filtered-passed b v s e = rw e
 
-filtered-dropped : (b : Bool) (v : ℕ) (s : ObjectState) → b ≡ false → filtered b v s .old ≡ s .old
+-- a dropped value leaves the count alone changed
+pub filtered-out : (b : Bool) (v : ℕ) (s : ObjectState) → b ≡ false → filtered b v s ≡ Rattle.state.specs.Updates.counted s
 unfolding filtered
-filtered-dropped b v s e = rw e
+filtered-out b v s e = rw e
 
 filtered-count : (b : Bool) (v : ℕ) (s : ObjectState) → filtered b v s .occurrence ≡ (s .occurrence + 1) % 256
 unfolding filtered
@@ -194,7 +195,7 @@ module _ (t : List ℕ) (c : Counts) (b : Book) (m : List ℕ) (a : Agrees t c b
       (λ (p : judge t c m (a .ready) i is v small area ≡ false).
       rw (sent-as t c m (a .ready) i is v small area false p, sym judge-is ∙ p)
       (agrees-dropped t c b first first-agrees i low v row row-kept (counted i (b .counts))
-      (filtered-dropped (judge t c m (a .ready) i is v small area) v (objectState first i) p) count-own count-other))
+      (ap (λ (s : ObjectState). s .old) (filtered-out (judge t c m (a .ready) i is v small area) v (objectState first i) p)) count-own count-other))
       (true-or-false (judge t c m (a .ready) i is v small area))
 
 pub agrees-send : (t : List ℕ) (c : Counts) (b : Book) (m : List ℕ) → Agrees t c b m → (i v : ℕ) → v < 2 ^ 32 → (area : List ℕ)

@@ -11,6 +11,7 @@ use lib.Dec.{leb, ltb, eqb}
 use lib.ListN.{length}
 use Rattle.memory.specs.Bytes.{Bytes}
 use Rattle.memory.specs.Search.{pick}
+use Rattle.memory.proofs.Search.{picked}
 use Rattle.table.specs.declared.Counts.{Counts}
 use Rattle.table.specs.declared.Verdict.the-variants.{Accepted}
 use Rattle.table.specs.Check.{check}
@@ -51,8 +52,7 @@ abbrev NotSix : Outcome → Type 0
 NotSix o = numberOf (o .answer) ≡ 6 → ⊥
 
 either-not : (b : Bool) (x y : Outcome) → NotSix x → NotSix y → NotSix (pick b x y)
-either-not true x y p q = p
-either-not false x y p q = q
+either-not b x y p q = picked NotSix b x y (λ e. p) (λ e. q)
 
 -- an answer of 0
 zero-not : _≡_ {A = ℕ} 0 6 → ⊥

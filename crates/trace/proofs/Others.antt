@@ -12,6 +12,7 @@ use lib.ListN.{length}
 use Rattle.memory.specs.Bytes.{Bytes, bytesOf, value, part, get, replaced}
 use Rattle.memory.specs.Search.{pick}
 use Rattle.memory.proofs.Laws.{bytesOf-length, bytesOf-bytes, part-apart, get-replaced, replaced-length, replaced-bytes}
+use Rattle.memory.proofs.Search.{picked}
 use Rattle.memory.proofs.Tests.{true-or-false}
 use Rattle.table.specs.declared.Counts.{Counts}
 use Rattle.table.specs.declared.Direction.{Direction}
@@ -84,8 +85,7 @@ module _ (t : List ℕ) (c : Counts) where
   -- ---- calls that the book does not see
 
   pick-unseen : (b : Bool) (m : List ℕ) (x y : Outcome) → (b ≡ true → Unseen t c m (x .memory)) → Unseen t c m (y .memory) → Unseen t c m (pick b x y .memory)
-  pick-unseen true m x y p q = p refl
-  pick-unseen false m x y p q = q
+  pick-unseen b m x y p q = picked (λ (o : Outcome). Unseen t c m (o .memory)) b x y p (λ e. q)
 
   module _ (m : List ℕ) (ready : Ready t c m) where
     as-found : Unseen t c m m
@@ -149,7 +149,7 @@ module _ (t : List ℕ) (c : Counts) where
         let two = ipdu-direction t c 2 k e in
         pick-unseen (eqb (length f) (ipduRecord t k .length)) m _ _
         (λ same.
-        let size : length f ≤ 8 = omega (arith, eqb-true (length f) (ipduRecord t k .length) same, ipdu-short t c m ready k low) in
+        let size : length f ≤ 8 = omega (arith, eqb-true (length f) (ipduRecord t k .length) same, ipdu-short t c (ready .right) k low) in
         let copied : Unseen t c m (replaced (slotAt k) f m) =
         record {
           ready = ready-bytes t c m ready (slotAt k) f bytes (omega (arith, size, low, ready .right .shape .ipdus, ready .long)) (inl (omega arith, omega (arith, size, low, ready .right .shape .ipdus)));
@@ -185,28 +185,26 @@ module _ (t : List ℕ) (c : Counts) where
 
   -- ---- stop
 
-  -- a stopped layer's byte is 1
-  stop-ready : (m : List ℕ) → Ready t c m → Ready t c (stopIn m .memory)
-  unfolding stopIn stoppedAt get
-  stop-ready m ready =
-      record {
-        right = ready .right;
-        tables = ready .tables;
-        long = omega (arith, replaced-length 0 (bytesOf 1 1) m room, ready .long);
-        bytes = replaced-bytes 0 (bytesOf 1 1) m (bytesOf-bytes 1 1) (ready .bytes);
-        stopped = rw (get-replaced 1 0 1 m (omega (arith, ready .long)));
-        ipdus = λ k b. rw (ipdu-read (replaced 0 (bytesOf 1 1) m) m k (λ o w h. same (ipduRow k + o) w (omega arith))) (ready .ipdus k b);
-        objects = λ i b. rw (object-read (replaced 0 (bytesOf 1 1) m) m i (λ o w h. same (objectRow i + o) w (omega arith))) (ready .objects i b);
-      }
-    where
-      one : length (bytesOf 1 1) ≡ 1
-      one = bytesOf-length 1 1
+  -- the byte of a stopped layer, and nothing else
+  module _ (m : List ℕ) (ready : Ready t c m) where
+    stop-part : (j w : ℕ) → 1 ≤ j → part j w (replaced 0 (bytesOf 1 1) m) ≡ part j w m
+    stop-part j w b = part-apart 0 (bytesOf 1 1) m j w (omega (arith, bytesOf-length 1 1, ready .long)) (inr (omega (arith, bytesOf-length 1 1, b)))
 
-      room : 0 + length (bytesOf 1 1) ≤ length m
-      room = omega (arith, one, ready .long)
+    stop-row : (i : ℕ) → objectState (replaced 0 (bytesOf 1 1) m) i ≡ objectState m i
+    stop-row i = object-read (replaced 0 (bytesOf 1 1) m) m i (λ o w h. stop-part (objectRow i + o) w (omega arith))
 
-      same : (j w : ℕ) → 1 ≤ j → part j w (replaced 0 (bytesOf 1 1) m) ≡ part j w m
-      same j w b = part-apart 0 (bytesOf 1 1) m j w room (inr (omega (arith, one, b)))
+    stop-ready : Ready t c (stopIn m .memory)
+    unfolding stopIn stoppedAt get
+    stop-ready =
+        record {
+          right = ready .right;
+          tables = ready .tables;
+          long = omega (arith, replaced-length 0 (bytesOf 1 1) m (omega (arith, bytesOf-length 1 1, ready .long)), ready .long);
+          bytes = replaced-bytes 0 (bytesOf 1 1) m (bytesOf-bytes 1 1) (ready .bytes);
+          stopped = rw (get-replaced 1 0 1 m (omega (arith, ready .long)));
+          ipdus = λ k b. rw (ipdu-read (replaced 0 (bytesOf 1 1) m) m k (λ o w h. stop-part (ipduRow k + o) w (omega arith))) (ready .ipdus k b);
+          objects = λ i b. rw (stop-row i) (ready .objects i b);
+        }
 
   pub agrees-stop : (b : Book) (m : List ℕ) → Agrees t c b m → Agrees t c (record { entries = b .entries; counts = b .counts; stopped = true }) (stopIn m .memory)
   unfolding stopIn stoppedAt get
@@ -214,13 +212,7 @@ module _ (t : List ℕ) (c : Counts) where
       record {
         ready = unfold stopIn in stop-ready m (a .ready);
         stopped = get-replaced 1 0 1 m (omega (arith, a .ready .long));
-        old = λ i h k. ap (λ (x : ObjectState). x .old) (row i) ∙ a .old i h k;
-        count = λ i h k. ap (λ (x : ObjectState). x .occurrence) (row i) ∙ a .count i h k;
-        bits = λ k h d p few. rw (part-apart 0 (bytesOf 1 1) m (slotAt k) 8 room (inr (omega (arith, bytesOf-length 1 1)))) (a .bits k h d p few);
+        old = λ i h k. ap (λ (x : ObjectState). x .old) (stop-row m (a .ready) i) ∙ a .old i h k;
+        count = λ i h k. ap (λ (x : ObjectState). x .occurrence) (stop-row m (a .ready) i) ∙ a .count i h k;
+        bits = λ k h d p few. rw (stop-part m (a .ready) (slotAt k) 8 (omega arith)) (a .bits k h d p few);
       }
-    where
-      room : 0 + length (bytesOf 1 1) ≤ length m
-      room = omega (arith, bytesOf-length 1 1, a .ready .long)
-
-      row : (i : ℕ) → objectState (replaced 0 (bytesOf 1 1) m) i ≡ objectState m i
-      row i = object-read (replaced 0 (bytesOf 1 1) m) m i (λ o w e. part-apart 0 (bytesOf 1 1) m (objectRow i + o) w room (inr (omega (arith, bytesOf-length 1 1))))

@@ -41,15 +41,15 @@ use Rattle.trace.proofs.Lists.{front-of, Follows, admission-is, step-fo
 use Rattle.trace.proofs.Calls.{step-hands}
 
 -- the same answer, and memories alike in the first 8,192 bytes
-pub record Twin (o p : Outcome) : Type 0 where
+pub record SameOutcome (o p : Outcome) : Type 0 where
   pub answer : o .answer ≡ p .answer
   pub memory : front (o .memory) ≡ front (p .memory)
 
 module _ (t : List ℕ) (c : Counts) (accepted : check t ≡ Accepted c) (bt : Bytes t) where
   -- a start leaves the same, whatever lay in memory before
-  pub start-twin : (m n : List ℕ) → memorySize ≤ length m → memorySize ≤ length n → Twin (step t start m) (step t start n)
+  pub start-same : (m n : List ℕ) → memorySize ≤ length m → memorySize ≤ length n → SameOutcome (step t start m) (step t start n)
   unfolding step startCall
-  start-twin m n long far =
+  start-same m n long far =
       let size = start-ready t c (accepted-right t c accepted) bt .long in
       rw (accepted, le-leb memorySize (length m) long, le-leb memorySize (length n) far)
       (record { answer = refl; memory = front-of (started t c) m size ∙ sym (front-of (started t c) n size) })
@@ -61,13 +61,13 @@ module _ (t : List ℕ) (c : Counts) (accepted : check t ≡ Accepted c) (bt : B
       memory : o .memory ≡ p .memory
       size : length (o .memory) ≡ memorySize
 
-    follow-twin : (fits : Bool) (area other : List ℕ) (x y : Counts → List ℕ → Outcome) → (fits ≡ true → Inner (x c (front m)) (y c (front n)))
-        → Twin (follow (admission t m fits) m area x) (follow (admission t n fits) n other y)
-    follow-twin fits area other x y i =
+    follow-same : (fits : Bool) (area other : List ℕ) (x y : Counts → List ℕ → Outcome) → (fits ≡ true → Inner (x c (front m)) (y c (front n)))
+        → SameOutcome (follow (admission t m fits) m area x) (follow (admission t n fits) n other y)
+    follow-same fits area other x y i =
         rw (admission-is t c accepted bt b m f fits, admission-is t c accepted bt b n g fits) (cases fits (b .stopped) i)
       where
         cases : (z s : Bool) → (z ≡ true → Inner (x c (front m)) (y c (front n)))
-            → Twin (follow (pick z (pick s (Refused Stopped) (Admitted c)) (Refused WrongMemory)) m area x)
+            → SameOutcome (follow (pick z (pick s (Refused Stopped) (Admitted c)) (Refused WrongMemory)) m area x)
             (follow (pick z (pick s (Refused Stopped) (Admitted c)) (Refused WrongMemory)) n other y)
         cases false s j = record { answer = refl; memory = alike }
         cases true true j = record { answer = refl; memory = alike }
@@ -91,36 +91,36 @@ module _ (t : List ℕ) (c : Counts) (accepted : check t ≡ Accepted c) (bt : B
           size = size;
         }
 
-    one : (x : Counts → List ℕ → Outcome) → length (x c (front m) .memory) ≡ memorySize → Twin (follow (admission t m true) m [] x) (follow (admission t n true) n [] x)
-    one x size = follow-twin true [] [] x x (λ e. inner x size)
+    one : (x : Counts → List ℕ → Outcome) → length (x c (front m) .memory) ≡ memorySize → SameOutcome (follow (admission t m true) m [] x) (follow (admission t n true) n [] x)
+    one x size = follow-same true [] [] x x (λ e. inner x size)
 
-    same-twin : (call : Call) → Typed call → Twin (step t call m) (step t call n)
+    equal-same : (call : Call) → Typed call → SameOutcome (step t call m) (step t call n)
     unfolding step
-    same-twin start y = start-twin m n (f .long) (g .long)
-    same-twin stop y = one (λ d. stopIn) (agrees-stop t c b (front m) (f .agrees) .ready .long)
-    same-twin (send i v area) y =
-        follow-twin (leb areaSize (length area)) area area (λ d. sendIn t d i v area) (λ d. sendIn t d i v area)
+    equal-same start y = start-same m n (f .long) (g .long)
+    equal-same stop y = one (λ d. stopIn) (agrees-stop t c b (front m) (f .agrees) .ready .long)
+    equal-same (send i v area) y =
+        follow-same (leb areaSize (length area)) area area (λ d. sendIn t d i v area) (λ d. sendIn t d i v area)
         (λ e. inner (λ d. sendIn t d i v area) (agrees-send t c b (front m) (f .agrees) i v y area .ready .long))
-    same-twin (initialise i v) y = one (λ d. initialiseIn t d i v) (agrees-initialise t c b (front m) (f .agrees) i v y .ready .long)
-    same-twin (receive i) y = one (λ d. receiveIn t d i) (unseen-receive t c (front m) (f .agrees .ready) i .ready .long)
-    same-twin (status i) y = one (λ d. statusIn t d i) (unseen-status t c (front m) (f .agrees .ready) i .ready .long)
-    same-twin (marks i) y = one (λ d. marksIn d i) (unseen-marks t c (front m) (f .agrees .ready) i .ready .long)
-    same-twin (clearMarks i) y = one (λ d. clearMarksIn d i) (unseen-clear t c (front m) (f .agrees .ready) i .ready .long)
-    same-twin startPeriodic y = one (λ d. periodicIn true t d) (unseen-periodic t c (front m) (f .agrees .ready) true .ready .long)
-    same-twin stopPeriodic y = one (λ d. periodicIn false t d) (unseen-periodic t c (front m) (f .agrees .ready) false .ready .long)
-    same-twin (indication k good h) y = one (λ d. indicationIn t d k good h) (unseen-indication t c (front m) (f .agrees .ready) k good h y .ready .long)
-    same-twin (confirm k good) y = one (λ d. confirmIn t d k good) (unseen-confirm t c (front m) (f .agrees .ready) k good .ready .long)
-    same-twin (tick area) y =
-        follow-twin (leb areaSize (length area)) area area (λ d. tickIn t d area) (λ d. tickIn t d area)
+    equal-same (initialise i v) y = one (λ d. initialiseIn t d i v) (agrees-initialise t c b (front m) (f .agrees) i v y .ready .long)
+    equal-same (receive i) y = one (λ d. receiveIn t d i) (unseen-receive t c (front m) (f .agrees .ready) i .ready .long)
+    equal-same (status i) y = one (λ d. statusIn t d i) (unseen-status t c (front m) (f .agrees .ready) i .ready .long)
+    equal-same (marks i) y = one (λ d. marksIn d i) (unseen-marks t c (front m) (f .agrees .ready) i .ready .long)
+    equal-same (clearMarks i) y = one (λ d. clearMarksIn d i) (unseen-clear t c (front m) (f .agrees .ready) i .ready .long)
+    equal-same startPeriodic y = one (λ d. periodicIn true t d) (unseen-periodic t c (front m) (f .agrees .ready) true .ready .long)
+    equal-same stopPeriodic y = one (λ d. periodicIn false t d) (unseen-periodic t c (front m) (f .agrees .ready) false .ready .long)
+    equal-same (indication k good h) y = one (λ d. indicationIn t d k good h) (unseen-indication t c (front m) (f .agrees .ready) k good h y .ready .long)
+    equal-same (confirm k good) y = one (λ d. confirmIn t d k good) (unseen-confirm t c (front m) (f .agrees .ready) k good .ready .long)
+    equal-same (tick area) y =
+        follow-same (leb areaSize (length area)) area area (λ d. tickIn t d area) (λ d. tickIn t d area)
         (λ e. inner (λ d. tickIn t d area) (unseen-tick t c area (front m) (f .agrees .ready) (leb-true areaSize (length area) e) .ready .long))
 
     -- ---- another area
 
-    areas-twin : (i v : ℕ) → v < 2 ^ 32 → (area other : List ℕ) → length area ≡ length other → Twin (step t (send i v area) m) (step t (send i v other) n)
+    areas-same : (i v : ℕ) → v < 2 ^ 32 → (area other : List ℕ) → length area ≡ length other → SameOutcome (step t (send i v area) m) (step t (send i v other) n)
     unfolding step
-    areas-twin i v small area other e =
+    areas-same i v small area other e =
         rw (sym e)
-        (follow-twin (leb areaSize (length area)) area other (λ d. sendIn t d i v area) (λ d. sendIn t d i v other)
+        (follow-same (leb areaSize (length area)) area other (λ d. sendIn t d i v area) (λ d. sendIn t d i v other)
         (λ z.
         let x = send-area t c i v area other (front m) in
         record {
@@ -129,11 +129,11 @@ module _ (t : List ℕ) (c : Counts) (accepted : check t ≡ Accepted c) (bt : B
           size = agrees-send t c b (front m) (f .agrees) i v small area .ready .long;
         }))
 
-    ticks-twin : (area other : List ℕ) → length area ≡ length other → Twin (step t (tick area) m) (step t (tick other) n)
+    ticks-same : (area other : List ℕ) → length area ≡ length other → SameOutcome (step t (tick area) m) (step t (tick other) n)
     unfolding step
-    ticks-twin area other e =
+    ticks-same area other e =
         rw (sym e)
-        (follow-twin (leb areaSize (length area)) area other (λ d. tickIn t d area) (λ d. tickIn t d other)
+        (follow-same (leb areaSize (length area)) area other (λ d. tickIn t d area) (λ d. tickIn t d other)
         (λ z.
         let x = tick-area t c area other (front m) in
         record {
@@ -168,10 +168,10 @@ module _ (t : List ℕ) (c : Counts) (accepted : check t ≡ Accepted c) (bt : B
           missing : isObject t c 1 i ≡ false → Inner (sendIn t c i v area (front m)) (sendIn t c i w other (front n))
           missing out = record { answer = unfold sendIn in rw out; memory = unfold sendIn in rw out alike; size = size }
 
-      dropped-twin : length area ≡ length other → Twin (step t (send i v area) m) (step t (send i w other) n)
+      dropped-same : length area ≡ length other → SameOutcome (step t (send i v area) m) (step t (send i w other) n)
       unfolding step
-      dropped-twin e =
-          rw (sym e) (follow-twin (leb areaSize (length area)) area other (λ d. sendIn t d i v area) (λ d. sendIn t d i w other) (λ z. dropped-inner))
+      dropped-same e =
+          rw (sym e) (follow-same (leb areaSize (length area)) area other (λ d. sendIn t d i v area) (λ d. sendIn t d i w other) (λ z. dropped-inner))
 
       -- the two books enter nothing, and count alike
       dropped-book : length area ≡ length other → advance t c b (send i v area) ≡ advance t c b (send i w other)
@@ -181,41 +181,41 @@ module _ (t : List ℕ) (c : Counts) (accepted : check t ≡ Accepted c) (bt : B
     -- ---- calls alike
 
     record Step (x y : Call) : Type 0 where
-      twin : Twin (step t x m) (step t y n)
+      outcome : SameOutcome (step t x m) (step t y n)
       word : wordOf x (step t x m .answer) ≡ wordOf y (step t y n .answer)
       book : advance t c b x ≡ advance t c b y
 
     alike-step : (x y : Call) → Typed x → Typed y → Alike t c b b x y → Step x y
     alike-step x y p q (same e) =
-        let w = same-twin x p in
-        subst (Step x) e (record { twin = w; word = ap (wordOf x) (w .answer); book = refl })
+        let w = equal-same x p in
+        subst (Step x) e (record { outcome = w; word = ap (wordOf x) (w .answer); book = refl })
     alike-step x y p q (areas i v area other ex ey e) =
         let small : v < 2 ^ 32 = rw ex at p in
-        let w = areas-twin i v small area other e in
-        rw (ex, ey) (record { twin = w; word = ap valueOf (w .answer); book = area-book i v area other e })
+        let w = areas-same i v small area other e in
+        rw (ex, ey) (record { outcome = w; word = ap valueOf (w .answer); book = area-book i v area other e })
       where
         area-book : (i v : ℕ) (area other : List ℕ) → length area ≡ length other → advance t c b (send i v area) ≡ advance t c b (send i v other)
         area-book i v area other e = unfold advance in rw (sym e)
     alike-step x y p q (ticks area other ex ey e) =
-        let w = ticks-twin area other e in
-        rw (ex, ey) (record { twin = w; word = ap valueOf (w .answer); book = unfold advance in refl })
+        let w = ticks-same area other e in
+        rw (ex, ey) (record { outcome = w; word = ap valueOf (w .answer); book = unfold advance in refl })
     alike-step x y p q (dropped i v w area other ex ey e dropv dropw none) =
         let small : v < 2 ^ 32 = rw ex at p in
         let little : w < 2 ^ 32 = rw ey at q in
-        let z = dropped-twin i v w small little area other dropv dropw none e in
-        rw (ex, ey) (record { twin = z; word = ap valueOf (z .answer); book = dropped-book i v w small little area other dropv dropw none e })
+        let z = dropped-same i v w small little area other dropv dropw none e in
+        rw (ex, ey) (record { outcome = z; word = ap valueOf (z .answer); book = dropped-book i v w small little area other dropv dropw none e })
 
     same-answer : (x y : Call) → Typed x → Typed y → Step x y → SameAnswer t x y (step t x m) (step t y n)
     same-answer x y p q s =
         let hx = step-hands t c accepted bt b m f x p in
         let hy = step-hands t c accepted bt b n g y q in
         record {
-          number = ap numberOf (s .twin .answer);
-          value = ap valueOf (s .twin .answer);
+          number = ap numberOf (s .outcome .answer);
+          value = ap valueOf (s .outcome .answer);
           word = s .word;
           frames = λ k e.
               hx .slot k e
-              ∙ ap (part (slotAt k) (ipduRecord t k .length)) (s .twin .memory)
+              ∙ ap (part (slotAt k) (ipduRecord t k .length)) (s .outcome .memory)
               ∙ sym (hy .slot k (rw (s .word) at e));
         }
 
@@ -230,6 +230,6 @@ module _ (t : List ℕ) (c : Counts) (accepted : check t ≡ Accepted c) (bt : B
         lists-same xs ys (p .1) (q .1) (advance t c b x) (step t x m .memory) (step t y n .memory)
             (step-follows t c accepted bt b m f x (p .0))
             (subst (λ (d : Book). Follows t c d (step t y n .memory)) (sym (s .book)) (step-follows t c accepted bt b n g y (q .0)))
-            (s .twin .memory)
+            (s .outcome .memory)
             (subst (λ (d : Book). AllAlike t c (advance t c b x) d xs ys) (sym (s .book)) (a .1)),
       )

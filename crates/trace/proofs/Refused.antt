@@ -8,6 +8,7 @@ use Prim.Native.Nat.{ℕ}
 use lib.Dec.{leb, ltb, eqb}
 use lib.ListN.{length, drop, take-append-drop}
 use Rattle.memory.specs.Search.{pick}
+use Rattle.memory.proofs.Search.{picked}
 use Rattle.table.specs.declared.Counts.{Counts}
 use Rattle.table.specs.declared.Verdict.{Verdict}
 use Rattle.table.specs.declared.Verdict.the-variants.{Accepted, WrongHeader, WrongIpdu, WrongObject}
@@ -58,8 +59,7 @@ did : (v : ℕ) (m area n other : List ℕ) → Leaves m area (outcome (Done v) 
 did v m area n other done limit = absurd (done refl)
 
 either : (b : Bool) (m area : List ℕ) (x y : Outcome) → Leaves m area x → Leaves m area y → Leaves m area (pick b x y)
-either true m area x y p q = p
-either false m area x y p q = q
+either b m area x y p q = picked (Leaves m area) b x y (λ e. p) (λ e. q)
 
 -- ---- each call over an accepted table and a memory in range
 

@@ -1,4 +1,4 @@
--- What a send leaves of other objects' rows, and the frame that it hands over.
+-- What a send leaves of other objects' rows, and what a hand-over leaves of the area.
 -- Assumes nothing.
 use mathlib.Core.Bool.{Bool, true, false}
 use mathlib.Core.List.{List, _++_}
@@ -22,8 +22,7 @@ use Rattle.state.specs.Updates.{withWanted}
 use Rattle.state.proofs.Laws.{ipdu-keeps-objects, object-read}
 use Rattle.message.specs.Objects.{Placed, startBit, pack}
 use Rattle.message.proofs.Kept.{pack-room, packed-slot-length}
-use Rattle.transmission.specs.Requests.{ipdu, goes, offered, handed}
-use Rattle.layer.specs.Answers.{valueOf}
+use Rattle.transmission.specs.Requests.{ipdu, offered, handed}
 use Rattle.layer.specs.Calls.{HasIpdu, wants, request}
 use Rattle.layer.proofs.Laws.{wants-some}
 
@@ -122,33 +121,6 @@ unfolding handed
 handed-same size k l m area few e =
     ap (λ (f : List ℕ). replaced (8 * k) (f ++ replicate (8 - size) 0) area)
     (sym (part-front (slotAt k) size 8 l few) ∙ ap (take size) e ∙ part-front (slotAt k) size 8 m few)
-
--- what a request that was made handed over
-pub record Handed (t : List ℕ) (o : Object) (area m : List ℕ) : Type 0 where
-  pub wanted : wants t o ≡ true
-  pub frame : part (8 * (o .ipdu .0)) (ipdu t (o .ipdu .0) .length .0) (request t o area m .area)
-      ≡ part (slotAt (o .ipdu .0)) (ipdu t (o .ipdu .0) .length .0) m
-
-pub request-hands : (t : List ℕ) (o : Object) (area m : List ℕ) → Placed o m → HasIpdu t o → 256 ≤ length area
-    → (valueOf (request t o area m .answer) ≡ 0 → ⊥) → Handed t o area m
-unfolding request
-request-hands t o area m placed there long made =
-    ⊎-elim
-    (λ (w : wants t o ≡ true).
-    ⊎-elim
-    (λ (g : goes (ipdu t (o .ipdu .0)) (withWanted 1 (ipduState m (o .ipdu .0))) ≡ true).
-    let some = wants-some t o w in
-    let low = placed .ipdu some in
-    record {
-      wanted = w;
-      frame =
-          rw (w, g)
-          (handed-front (ipdu t (o .ipdu .0) .length .0) (o .ipdu .0) m area (there .few some) low long (omega (arith, low, placed .long)));
-    })
-    (λ (g : goes (ipdu t (o .ipdu .0)) (withWanted 1 (ipduState m (o .ipdu .0))) ≡ false). absurd (made (rw (w, g))))
-    (true-or-false (goes (ipdu t (o .ipdu .0)) (withWanted 1 (ipduState m (o .ipdu .0))))))
-    (λ (w : wants t o ≡ false). absurd (made (rw w)))
-    (true-or-false (wants t o))
 
 -- with or without a request, no row of an object changes
 pub request-rows : (t : List ℕ) (o : Object) (area m : List ℕ) → Placed o m → (j : ℕ)

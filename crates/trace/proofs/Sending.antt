@@ -16,29 +16,29 @@ use Rattle.memory.specs.Search.{pick, fold}
 use Rattle.memory.proofs.Search.{picked, any-false, fold-view}
 use Rattle.memory.proofs.Tests.{true-or-false, true-not-false}
 use Rattle.table.specs.declared.Counts.{Counts}
-use Rattle.table.specs.Records.{ipduRecord, objectRecord}
+use Rattle.table.specs.Records.{objectRecord}
 use Rattle.table.specs.Decode.{objectOf, Right}
 use Rattle.table.proofs.Accepted.{Usable, usable}
 use Rattle.state.specs.declared.ObjectState.{ObjectState}
-use Rattle.state.specs.Layout.{objectState, withObjectState, ipduState}
-use Rattle.state.specs.Updates.{counted, withWanted}
+use Rattle.state.specs.Layout.{objectState, withObjectState}
+use Rattle.state.specs.Updates.{counted}
 use Rattle.state.specs.Ranges.{Ready}
-use Rattle.message.specs.Objects.{object, lets, filtered, deliver, pack}
+use Rattle.message.specs.Objects.{object, lets, deliver, pack}
 use Rattle.message.specs.Delivery.{insideTurn, deliverInside}
 use Rattle.message.proofs.Kept.{ready-pack}
 use Rattle.transmission.specs.Requests.{ipdu}
 use Rattle.layer.specs.declared.Answer.the-variants.{Done, WrongId}
 use Rattle.layer.specs.Answers.{Outcome, outcome, valueOf}
-use Rattle.layer.specs.Calls.{isObject, wants, offerOf, request, sendOf, sendIn}
+use Rattle.layer.specs.Calls.{isObject, wants, request, sendOf, sendIn}
 use Rattle.layer.specs.Step.{areaSize}
-use Rattle.layer.proofs.Laws.{object-there, object-kind, wants-some}
+use Rattle.layer.proofs.Laws.{object-there, wants-some}
 use Rattle.trace.specs.Book.{Book, keeps}
 use Rattle.trace.specs.Demand3.{names, inside}
 use Rattle.trace.proofs.Frames.{judge, after, after-ready, sent-as}
 use Rattle.trace.proofs.Agree.{Same, Agrees}
 use Rattle.trace.proofs.Unseen.{Unseen, sender-received, unseen-request}
-use Rattle.trace.proofs.Kept.{judge-is}
-use Rattle.trace.proofs.Hands.{Hands, hands-none, hands-same, Next, offer-cases, hands-more}
+use Rattle.trace.proofs.Kept.{filtered-out, judge-is}
+use Rattle.trace.proofs.Hands.{Hands, hands-none, hands-same, Next, request-offer, hands-more}
 
 module _ (t : List ℕ) (c : Counts) where
   -- no request, no frame
@@ -62,24 +62,16 @@ module _ (t : List ℕ) (c : Counts) where
       k = objectRecord t (c .ipdus) i .ipdu
 
       o : Outcome
-      o = offerOf (ipdu t k) k (withWanted 1 (ipduState m k)) area m
-
-      is-offer : wants t (object t c i) ≡ true → request t (object t c i) area m ≡ o
-      is-offer w = unfold request objectOf in rw w
+      o = request t (object t c i) area m
 
       wanted : wants t (object t c i) ≡ true → HandsOver (request t (object t c i) area m)
       wanted w =
-          let there = usable t c (ready .right) i h .ipdu (some w) in
-          let d : ipduRecord t k .direction ≡ 1 = there .1 ∙ object-kind t c 1 i is in
+          let low : k < c .ipdus = unfold objectOf in usable t c (ready .right) i h .ipdu (wants-some t (object t c i) w) .0 in
           let x =
-          hands-more t c (ready .right) k 0 (there .0) area m fits (ready .long) (pow-pos k) (λ j e. absurd (hands-none j e)) (hands-zero area m) o
-          (offer-cases t c (ready .right) k (there .0) d (withWanted 1 (ipduState m k)) area m m refl) in
-          let slots = unseen-request t c i is area m ready .same .slot in
-          rw (is-offer w)
-          (hands-same t c (valueOf (o .answer)) (o .area) m (o .memory) (ready .right) (rw (zero-add (valueOf (o .answer))) at (x .hands)) (rw (is-offer w) at slots))
-        where
-          some : wants t (object t c i) ≡ true → eqb (objectRecord t (c .ipdus) i .ipdu) 255 ≡ false
-          some w = unfold objectOf in wants-some t (object t c i) w
+          hands-more t c (ready .right) k 0 low area m fits (ready .long) (pow-pos k) (λ j e. absurd (hands-none j e)) (hands-zero area m) o
+          (request-offer t c (ready .right) i is w area m) in
+          hands-same t c (valueOf (o .answer)) (o .area) m (o .memory) (ready .right) (rw (zero-add (valueOf (o .answer))) at (x .hands))
+          (unseen-request t c i is area m ready .same .slot)
 
   -- ---- send
 
@@ -133,10 +125,6 @@ module _ (t : List ℕ) (c : Counts) where
       still j b =
           picked (λ (l : List ℕ). l ≡ fold j (insideTurn t c i v) m) (eqb (objectRecord t (c .ipdus) j .sender) i)
           (deliver (object t c j) j v (fold j (insideTurn t c i v) m)) (fold j (insideTurn t c i v) m) (λ e. absurd (not-inside j b e)) (λ e. refl)
-
-  filtered-out : (p : Bool) (v : ℕ) (s : ObjectState) → p ≡ false → filtered p v s ≡ counted s
-  unfolding filtered
-  filtered-out p v s e = rw e
 
   pub send-dropped : (b : Book) (m : List ℕ) → Agrees t c b m → (i v : ℕ) → v < 2 ^ 32 → (area : List ℕ) → isObject t c 1 i ≡ true
       → keeps t c b i v ≡ false → inside t c i ≡ false → sendIn t c i v area m ≡ outcome (Done 0) (withObjectState m i (counted (objectState m i))) area

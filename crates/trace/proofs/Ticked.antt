@@ -7,7 +7,6 @@ use Prim.Native.Nat.{ℕ, zero, suc, _+_, _^_, _≤_, _<_}
 use native.Mathlib.Omega.{arith}
 use lib.ListN.{length}
 use Rattle.memory.specs.Search.{pick}
-use Rattle.memory.proofs.Search.{picked}
 use Rattle.table.specs.declared.Counts.{Counts}
 use Rattle.table.specs.declared.Direction.{Direction}
 use Rattle.table.specs.declared.Direction.the-variants.{Send, Receive}
@@ -17,7 +16,7 @@ use Rattle.state.specs.Layout.{ipduState}
 use Rattle.state.specs.Ranges.{Ready}
 use Rattle.message.specs.Delivery.{markObjects}
 use Rattle.transmission.specs.Requests.{ipdu, offered, handed}
-use Rattle.transmission.specs.Ticks.{delayed, expires, aged, counted, late, watched}
+use Rattle.transmission.specs.Ticks.{delayed, expires, aged, countedDown, late, watched}
 use Rattle.transmission.proofs.Kept.{SendKept, kept-offered, ready-send-kept, ReceiveKept, ready-receive, ready-receive-kept}
 use Rattle.transmission.proofs.Ticked.{kept-delayed, kept-aged, kept-counted, kept-watched}
 use Rattle.layer.specs.declared.Answer.the-variants.{Done}
@@ -28,7 +27,7 @@ use Rattle.layer.proofs.Laws.{sends-one}
 use Rattle.layer.proofs.Ticks.{tick-word, word-more}
 use Rattle.trace.specs.Demand3.{names}
 use Rattle.trace.proofs.Agree.{Same}
-use Rattle.trace.proofs.Unseen.{Unseen, unseen-refl, unseen-then, unseen-mark, unseen-ipdu, unseen-send}
+use Rattle.trace.proofs.Unseen.{Unseen, unseen-pick, unseen-refl, unseen-then, unseen-mark, unseen-ipdu, unseen-send}
 use Rattle.trace.proofs.Hands.{Hands, hands-none, hands-same, Offer, quiet, offer-cases, offer-from, Next, hands-more}
 
 module _ (t : List ℕ) (c : Counts) where
@@ -37,7 +36,7 @@ module _ (t : List ℕ) (c : Counts) where
   -- marks on its objects, where a time has run out
   unseen-due : (due : Bool) (k mark : ℕ) → mark ≤ 15 → (m : List ℕ) → Ready t c m → Unseen t c m (pick due (markObjects t c k mark m) m)
   unseen-due due k mark few m ready =
-      picked (Unseen t c m) due (markObjects t c k mark m) m (λ e. unseen-mark t c k mark few m ready) (λ e. unseen-refl t c m ready)
+      unseen-pick t c due m (markObjects t c k mark m) ready (λ e. unseen-mark t c k mark few m ready)
 
   -- what one I-PDU's tick does: nothing that the book sees, and perhaps a request
   record Turn (k : ℕ) (area m : List ℕ) (o : Outcome) : Type 0 where
@@ -50,7 +49,7 @@ module _ (t : List ℕ) (c : Counts) where
         let p : Ipdu = ipdu t k in
         let n : List ℕ = pick (expires s) (markObjects t c k 8 m) m in
         let u = unseen-due (expires s) k 8 (omega arith) m ready in
-        let next : IpduState = counted p (aged s) in
+        let next : IpduState = countedDown p (aged s) in
         let one = sends-one t k d in
         record {
           unseen =

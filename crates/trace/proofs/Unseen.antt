@@ -127,9 +127,8 @@ module _ (t : List ℕ) (c : Counts) where
           same-queue t c m ready (placeAt (object t c i .depth) (objectState m i) (objectState m i .count)) (bytesOf 4 v) (omega (arith, room, bytesOf-length 4 v)) (omega arith)
       queue-same false = same-refl t c m
 
-  unseen-pick : (b : Bool) (m n : List ℕ) → Ready t c m → (b ≡ true → Unseen m n) → Unseen m (pick b n m)
-  unseen-pick true m n ready u = u refl
-  unseen-pick false m n ready u = record { ready = ready; same = same-refl t c m }
+  pub unseen-pick : (b : Bool) (m n : List ℕ) → Ready t c m → (b ≡ true → Unseen m n) → Unseen m (pick b n m)
+  unseen-pick b m n ready u = picked (Unseen m) b n m u (λ e. unseen-refl m ready)
 
   -- internal delivery
   pub unseen-inside : (i v : ℕ) → i < c .objects → v < 2 ^ 32 → (m : List ℕ) → Ready t c m → Unseen m (deliverInside t c i v m)

@@ -11,7 +11,7 @@ use Rattle.table.specs.declared.Ipdu.{Ipdu}
 use Rattle.state.specs.declared.IpduState.{IpduState}
 use Rattle.state.specs.Updates.{withRequest, withWanted, withPeriod}
 use Rattle.transmission.specs.Requests.{closed}
-use Rattle.transmission.specs.Ticks.{delayed, expires, aged, fires, counted, late, watched}
+use Rattle.transmission.specs.Ticks.{delayed, expires, aged, fires, countedDown, late, watched}
 use Rattle.transmission.proofs.Kept.{SendKept, kept-closed, ReceiveKept}
 
 -- ---- a send I-PDU
@@ -53,8 +53,8 @@ module _ (p : Ipdu) (s : IpduState) (k : SendKept p s) where
       cases false true = older
       cases false false = k
 
-  pub kept-counted : SendKept p (counted p s)
-  unfolding counted
+  pub kept-counted : SendKept p (countedDown p s)
+  unfolding countedDown
   kept-counted = cases (fires s) (eqb (s .running) 1)
     where
       -- another countdown, and wanted or not

@@ -24,8 +24,8 @@ aged s = pick (expires s) (closed 0 s) (pick (eqb (s .requested) 1) (withRequest
 unfoldable pub fires : IpduState → Bool
 fires s = eqb (s .running) 1 && eqb (s .countdown - 1) 0
 
-unfoldable pub counted : Ipdu → IpduState → IpduState
-counted p s =
+unfoldable pub countedDown : Ipdu → IpduState → IpduState
+countedDown p s =
     pick (fires s) (withWanted 1 (withPeriod (s .running) (p .period) s)) (pick (eqb (s .running) 1) (withPeriod (s .running) (s .countdown - 1) s) s)
 
 -- a receive I-PDU: a timer above 0 falls by one; on reaching 0 it becomes R

@@ -9,7 +9,7 @@ pub use requests::confirm;
 pub use requests::offer;
 pub use requests::set_timer;
 pub use ticks::aged;
-pub use ticks::counted;
+pub use ticks::counted_down;
 pub use ticks::delayed;
 pub use ticks::expires;
 pub use ticks::late;

@@ -3,7 +3,7 @@ use state::IpduState;
 use table::Ipdu;
 ghost use mathlib.Core.Path.{_≡_};
 ghost use Prim.Native.Nat.{_-_};
-ghost use Rattle.transmission.specs.Ticks.{delayed, expires, aged, fires, counted, late, watched};
+ghost use Rattle.transmission.specs.Ticks.{delayed, expires, aged, fires, countedDown, late, watched};
 
 // The numbers of a send I-PDU with its delay a tick shorter.
 pub fn delayed(s: IpduState) -> IpduState
@@ -49,8 +49,8 @@ fn fires(s: IpduState) -> bool
 }
 
 // The numbers of a send I-PDU with its period's countdown a tick lower.
-pub fn counted(p: Ipdu, s: IpduState) -> IpduState
-    ensures { λ r. ⌜ r ≡ counted p s ⌝ }
+pub fn counted_down(p: Ipdu, s: IpduState) -> IpduState
+    ensures { λ r. ⌜ r ≡ countedDown p s ⌝ }
 {
     let mut next = s;
     if fires(s) {

@@ -39,14 +39,14 @@ copy-requires : tie.Need-copy-requires
 unfolding ipduOf
 copy-requires c κs =
     let same = ap (λ (p : Ipdu). p .length .0) (c .before .before .before .before .decode-ipdu .ensures) in
-    let low = ipdu-short (c .before .before .before .before .before .before .before .before .args .t .now) (c .before .before .before .before .before .before .before .before .args .c) (c .before .before .before .before .before .before .before .before .args .m .now) (c .before .before .before .before .before .before .before .before .pre .0) (c .before .before .before .before .before .before .before .before .args .number .0) (c .before .before .before .before .before .before .before .before .pre .1) in
+    let low = ipdu-short (c .before .before .before .before .before .before .before .before .args .t .now) (c .before .before .before .before .before .before .before .before .args .c) (c .before .before .before .before .before .before .before .before .pre .0 .right) (c .before .before .before .before .before .before .before .before .args .number .0) (c .before .before .before .before .before .before .before .before .pre .1) in
     omega (arith, c .before .before .if1 .left ∙ same, low, c .before .before .before .before .before .before .before .before .pre .1, c .before .before .before .before .before .before .before .before .pre .0 .right .shape .ipdus, c .before .before .before .before .before .before .before .before .pre .0 .long)
 
 deliver-frame-requires : tie.Need-deliver-frame-requires
 unfolding ipduOf
 deliver-frame-requires c κs =
     let same = ap (λ (p : Ipdu). p .length .0) (c .before .before .before .before .before .before .before .before .decode-ipdu .ensures) in
-    let low = ipdu-short (c .before .before .before .before .before .before .before .before .before .before .before .before .args .t .now) (c .before .before .before .before .before .before .before .before .before .before .before .before .args .c) (c .before .before .before .before .before .before .before .before .before .before .before .before .args .m .now) (c .before .before .before .before .before .before .before .before .before .before .before .before .pre .0) (c .before .before .before .before .before .before .before .before .before .before .before .before .args .number .0) (c .before .before .before .before .before .before .before .before .before .before .before .before .pre .1) in
+    let low = ipdu-short (c .before .before .before .before .before .before .before .before .before .before .before .before .args .t .now) (c .before .before .before .before .before .before .before .before .before .before .before .before .args .c) (c .before .before .before .before .before .before .before .before .before .before .before .before .pre .0 .right) (c .before .before .before .before .before .before .before .before .before .before .before .before .args .number .0) (c .before .before .before .before .before .before .before .before .before .before .before .before .pre .1) in
     let size : length (c .before .before .before .before .before .before .before .before .before .before .before .before .args .bytes .now) ≤ 8 = omega (arith, c .before .before .before .before .before .before .if1 .left ∙ same, low) in
     let below : c .before .before .before .before .before .before .before .before .before .before .before .before .args .number .0 < 32 = omega (arith, c .before .before .before .before .before .before .before .before .before .before .before .before .pre .1, c .before .before .before .before .before .before .before .before .before .before .before .before .pre .0 .right .shape .ipdus) in
     rw (c .before .before .before .copy .ensures)

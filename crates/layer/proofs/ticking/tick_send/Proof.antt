@@ -19,8 +19,8 @@ mark-where-requires c κs = search needs
 aged-requires : tie.Need-aged-requires
 aged-requires c κs = search needs
 
-counted-requires : tie.Need-counted-requires
-counted-requires c κs = search needs
+counted-down-requires : tie.Need-counted-down-requires
+counted-down-requires c κs = search needs
 
 offer-requires : tie.Need-offer-requires
 offer-requires c κs = (c .before .before .before .before .before .before .before .before .before .before .before .before .before .before .before .pre .1 .0, (search (needs, c .before .before .before .before .before .before .before .before .before .before .before .before .before .before .before .pre .1 .1), search (needs, c .before .before .before .before .before .before .before .before .before .before .before .before .before .before .before .pre .1 .2), c .before .before .before .before .before .before .before .before .before .before .before .before .before .before .before .pre .1 .3))
@@ -32,7 +32,7 @@ same-length-2 : tie.Need-same-length-2
 same-length-2 c = search needs
 
 returns : tie.Need-returns
-returns c = rw (c .before .before .before .before .offer .ensures .0, c .before .before .before .before .offer .ensures .1 .0, c .before .before .before .before .offer .ensures .1 .1, c .before .before .before .before .before .before .before .before .before .before .before .mark-where .ensures, c .before .before .before .before .before .before .before .counted .ensures, c .before .before .before .before .before .before .before .before .aged .ensures, c .before .before .before .before .before .before .before .before .before .before .before .before .expires .ensures, c .before .before .before .before .before .before .before .before .before .before .before .before .before .before .delayed .ensures, c .before .before .before .before .before .before .before .before .before .before .before .before .before .before .before .ipdu-state .ensures, c .before .before .before .before .before .before .before .before .before .before .before .before .before .before .before .before .before .before .before .before .pre .1 .4)
+returns c = rw (c .before .before .before .before .offer .ensures .0, c .before .before .before .before .offer .ensures .1 .0, c .before .before .before .before .offer .ensures .1 .1, c .before .before .before .before .before .before .before .before .before .before .before .mark-where .ensures, c .before .before .before .before .before .before .before .counted-down .ensures, c .before .before .before .before .before .before .before .before .aged .ensures, c .before .before .before .before .before .before .before .before .before .before .before .before .expires .ensures, c .before .before .before .before .before .before .before .before .before .before .before .before .before .before .delayed .ensures, c .before .before .before .before .before .before .before .before .before .before .before .before .before .before .before .ipdu-state .ensures, c .before .before .before .before .before .before .before .before .before .before .before .before .before .before .before .before .before .before .before .before .pre .1 .4)
 
 pub tick-send-spec : {M : Type 1} → statement M
 tick-send-spec =
@@ -43,7 +43,7 @@ tick-send-spec =
     expires-requires
     mark-where-requires
     aged-requires
-    counted-requires
+    counted-down-requires
     offer-requires
     same-length
     same-length-2
