@@ -10,7 +10,7 @@ use Rattle.bits.specs.declared.Order.the-variants.{Little, Big}
 use Rattle.bits.specs.Bits.{room, packed, unpacked}
 use Rattle.state.specs.Layout.{memorySize}
 use Rattle.layer.specs.Answers.{Outcome, numberOf, valueOf}
-use Rattle.layer.specs.Step.{Call, start, send, receive, status, marks, clearMarks, startPeriodic, indication, confirm, tick, areaSize, run}
+use Rattle.layer.specs.Step.{Call, start, stop, send, receive, status, marks, clearMarks, startPeriodic, indication, confirm, tick, areaSize, run}
 
 -- a call and the number and value that it answers
 pub record Line : Type 0 where
@@ -122,7 +122,7 @@ case8 =
     ∷ line (receive 0) 4 0
     ∷ [])
 
--- 9: direct, M 3, D 10: request, good confirm, send: request on the third tick
+-- 9: direct, M 3, D 10: request, good confirm, send: request on the third tick. A tick with too short an area is none.
 abbrev pub case9 : Case
 case9 =
     answers (tableOf (sendIpdu 0 0 0 3 10) (sendObject 0 0 0))
@@ -131,11 +131,12 @@ case9 =
     ∷ line (confirm 0 true) 0 0
     ∷ line (send 0 6 area) 0 0
     ∷ line (tick area) 0 0
+    ∷ line (tick []) 6 0
     ∷ line (tick area) 0 0
     ∷ line (tick area) 0 1
     ∷ [])
 
--- 10: D 2, no confirm, a second send waiting: request on the second tick, with send error (8) marked
+-- 10: D 2, no confirm, a second send waiting: request on the second tick, with send error (8) marked. A stopped layer answers 7.
 abbrev pub case10 : Case
 case10 =
     answers (tableOf (sendIpdu 0 0 0 0 2) (sendObject 0 0 0))
@@ -145,6 +146,8 @@ case10 =
     ∷ line (tick area) 0 0
     ∷ line (tick area) 0 1
     ∷ line (marks 0) 0 8
+    ∷ line stop 0 0
+    ∷ line (marks 0) 7 0
     ∷ [])
 
 -- 11: mode 1, period 4, offset 2: requests on ticks 2, 6, 10 after start periodic
