@@ -1,3 +1,4 @@
+pub mod Case
 pub mod Cases
 pub mod Book
 pub mod Demand3
