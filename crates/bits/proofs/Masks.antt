@@ -13,14 +13,14 @@ use lib.Dec.{eqb}
 use lib.ListN.{length, getD, length-reverse}
 use lib.Pow.{pow-pos, pow-mono, ones-lt, shl-lt}
 use Rattle.memory.specs.Bytes.{Bytes, value, bytesOf}
-use Rattle.memory.specs.Search.{pick, any}
+use Rattle.memory.specs.Search.{pick, anyBelow}
 use Rattle.memory.proofs.Search.{any-none, any-some, any-false}
 use Rattle.memory.proofs.Tests.{lt-or-le, true-or-false, true-not-false}
 use Rattle.memory.proofs.Laws.{bytesOf-length}
 use Rattle.bits.specs.declared.Order.{Order}
 use Rattle.bits.specs.declared.Order.the-variants.{Little, Big}
 use Rattle.bits.specs.Bits.{bit, number, place, owns}
-use Rattle.bits.specs.Slots.{position, swapped, turned, mask}
+use Rattle.bits.specs.Slots.{position, bytesReversed, turned, mask}
 use Rattle.bits.proofs.Numbers.{bit-lt, bit-of-zero, bit-low, bit-high, number-bit, bits-ext}
 use Rattle.bits.proofs.Places.{position-lt, position-twice, along, place-at, Run}
 use Rattle.bits.proofs.Slots.{turned-bit, turned-bytes}
@@ -63,7 +63,7 @@ value-lt [] bs = omega arith
 value-lt (b ∷ f) bs = rw pow-succ' (omega (arith, bs 0, value-lt f (λ i. bs (suc i))))
 
 turned-lt : (o : Order) (w : ℕ) → w < 2 ^ 64 → turned o w < 2 ^ 64
-unfolding turned swapped
+unfolding turned bytesReversed
 turned-lt Little w h = h
 turned-lt Big w h =
     let eight : length (reverse (bytesOf 8 w)) ≡ 8 = length-reverse (bytesOf 8 w) ∙ bytesOf-length 8 w in
@@ -131,12 +131,12 @@ words-join u v c d hu hv p h = or-bit u v p ∙ ap₂ max (hu p h) (hv p h) ∙ 
 
 -- they have no bit in common where their `&` is 0
 pub words-share : (u v : ℕ) (c d : ℕ → Bool) → u < 2 ^ 64 → Describes u c → Describes v d
-    → eqb (bitAnd u v) 0 ≡ not (any 64 (λ p. c p && d p))
+    → eqb (bitAnd u v) 0 ≡ not (anyBelow 64 (λ p. c p && d p))
 words-share u v c d fits hu hv =
     ⊎-elim
     (λ t. rw t (meet t))
     (λ t. rw t (eq-eqb _ _ (apart t)))
-    (true-or-false (any 64 (λ p. c p && d p)))
+    (true-or-false (anyBelow 64 (λ p. c p && d p)))
   where
     both : (a b : Bool) → min (pick a 1 0) (pick b 1 0) ≡ pick (a && b) 1 0
     both true true = refl
@@ -147,7 +147,7 @@ words-share u v c d fits hu hv =
     shared : Describes (bitAnd u v) (λ p. c p && d p)
     shared p h = and-bit u v p ∙ ap₂ min (hu p h) (hv p h) ∙ both (c p) (d p)
 
-    apart : any 64 (λ p. c p && d p) ≡ false → bitAnd u v ≡ 0
+    apart : anyBelow 64 (λ p. c p && d p) ≡ false → bitAnd u v ≡ 0
     apart t =
         bits-ext 64 (bitAnd u v) 0 (lt-of-le-of-lt (and-le-l u v) fits) (pow-pos 64)
         (λ p h. shared p h ∙ ap (λ (b : Bool). pick b 1 0) (any-false 64 (λ q. c q && d q) t p h) ∙ sym (bit-of-zero p))
@@ -156,7 +156,7 @@ words-share u v c d fits hu hv =
     none true e = let z : _≡_ {A = ℕ} 1 0 = e in absurd (omega arith)
     none false e = refl
 
-    meet : any 64 (λ p. c p && d p) ≡ true → eqb (bitAnd u v) 0 ≡ false
+    meet : anyBelow 64 (λ p. c p && d p) ≡ true → eqb (bitAnd u v) 0 ≡ false
     meet t =
         ne-eqb _ _
         (λ e.

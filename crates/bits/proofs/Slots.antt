@@ -14,7 +14,7 @@ use Rattle.memory.specs.Bytes.{Bytes, value, bytesOf}
 use Rattle.bits.specs.declared.Order.{Order}
 use Rattle.bits.specs.declared.Order.the-variants.{Little, Big}
 use Rattle.bits.specs.Bits.{bit, number, frameBit, frame}
-use Rattle.bits.specs.Slots.{position, swapped, turned, field, withField}
+use Rattle.bits.specs.Slots.{position, bytesReversed, turned, bitField, withBitField}
 use Rattle.memory.proofs.Tests.{lt-or-le}
 use Rattle.bits.proofs.Numbers.{bit-lt, bit-low, bit-high, bit-mod, bit-div, number-ext, number-bits}
 use Rattle.bits.proofs.Frames.{frame-bit, frame-length, frame-bytes, value-bit, bytesOf-frame}
@@ -57,7 +57,7 @@ pub turned-bytes : (w : ℕ) → Bytes (reverse (bytesOf 8 w))
 turned-bytes w = reverse-bytes (bytesOf 8 w) (rw bytesOf-frame (frame-bytes 8 (bit w) (bit-lt w)))
 
 pub turned-bit : (o : Order) (w p : ℕ) → p < 64 → bit (turned o w) p ≡ bit w (position o p)
-unfolding turned swapped
+unfolding turned bytesReversed
 turned-bit Little w p h = unfold position in refl
 turned-bit Big w p h =
     value-bit (reverse (bytesOf 8 w)) (turned-bytes w) p
@@ -66,14 +66,14 @@ turned-bit Big w p h =
     ∙ frame-bit 8 (bit w) (bit-lt w) (position Big p) (position-lt Big p h)
 
 -- a field is a run of bits
-pub field-number : (w at size : ℕ) → field w at size ≡ number size (λ i. bit w (at + i))
-unfolding field
+pub field-number : (w at size : ℕ) → bitField w at size ≡ number size (λ i. bit w (at + i))
+unfolding bitField
 field-number w at size = sym (number-bits size (w / 2 ^ at)) ∙ number-ext size _ _ (λ i h. bit-div w at i)
 
 -- the word is split below the field, at it and above it
 with-field-parts : (w at size x : ℕ)
-    → withField w at size x ≡ w % 2 ^ at + 2 ^ at * (x % 2 ^ size + 2 ^ size * (w / 2 ^ at / 2 ^ size))
-unfolding withField field
+    → withBitField w at size x ≡ w % 2 ^ at + 2 ^ at * (x % 2 ^ size + 2 ^ size * (w / 2 ^ at / 2 ^ size))
+unfolding withBitField bitField
 with-field-parts w at size x =
     let p : ℕ = 2 ^ at in
     let q : ℕ = 2 ^ size in
@@ -83,15 +83,15 @@ with-field-parts w at size x =
     omega (arith, mod-add-div w p, mul-comm (m % q) p, mul-comm (x % q) p)
 
 -- the field holds the low bits of x, and every other bit is as it was
-pub with-field-in : (w at size x i : ℕ) → i < size → bit (withField w at size x) (at + i) ≡ bit x i
+pub with-field-in : (w at size x i : ℕ) → i < size → bit (withBitField w at size x) (at + i) ≡ bit x i
 with-field-in w at size x i h =
     rw with-field-parts
     (bit-high at _ _ i (mod-lt w (pow-pos at)) ∙ bit-low size _ _ i h ∙ bit-mod x size i h)
 
-pub with-field-below : (w at size x i : ℕ) → i < at → bit (withField w at size x) i ≡ bit w i
+pub with-field-below : (w at size x i : ℕ) → i < at → bit (withBitField w at size x) i ≡ bit w i
 with-field-below w at size x i h = rw with-field-parts (bit-low at _ _ i h ∙ bit-mod w at i h)
 
-pub with-field-above : (w at size x i : ℕ) → bit (withField w at size x) (at + (size + i)) ≡ bit w (at + (size + i))
+pub with-field-above : (w at size x i : ℕ) → bit (withBitField w at size x) (at + (size + i)) ≡ bit w (at + (size + i))
 with-field-above w at size x i =
     rw with-field-parts
     (bit-high at _ _ (size + i) (mod-lt w (pow-pos at)) ∙ bit-high size _ _ i (mod-lt x (pow-pos size))
@@ -108,7 +108,7 @@ new-field-lt at size x h =
     lt-of-lt-of-le (shl-lt size at (mod-lt x (pow-pos size)))
     (pow-mono (let k : size + at ≤ 64 = omega arith in k))
 
-pub with-field-lt : (w at size x : ℕ) → at + size ≤ 64 → w < 2 ^ 64 → withField w at size x < 2 ^ 64
+pub with-field-lt : (w at size x : ℕ) → at + size ≤ 64 → w < 2 ^ 64 → withBitField w at size x < 2 ^ 64
 with-field-lt w at size x h fits =
     let rest : ℕ = 64 - (at + size) in
     let whole : rest + (at + size) ≡ 64 = omega arith in
@@ -118,7 +118,7 @@ with-field-lt w at size x h fits =
     digits-lt high (mod-lt x (pow-pos size)) in
     let all : (w / 2 ^ at / 2 ^ size * 2 ^ size + x % 2 ^ size) * 2 ^ at + w % 2 ^ at < 2 ^ rest * 2 ^ size * 2 ^ at =
     digits-lt upper (mod-lt w (pow-pos at)) in
-    let sum : withField w at size x ≡ (w / 2 ^ at / 2 ^ size * 2 ^ size + x % 2 ^ size) * 2 ^ at + w % 2 ^ at =
+    let sum : withBitField w at size x ≡ (w / 2 ^ at / 2 ^ size * 2 ^ size + x % 2 ^ size) * 2 ^ at + w % 2 ^ at =
     with-field-parts w at size x ∙ add-comm (w % 2 ^ at) _
     ∙ ap (λ (n : ℕ). n + w % 2 ^ at) (mul-comm (2 ^ at) _ ∙ ap (λ (n : ℕ). n * 2 ^ at) (add-comm (x % 2 ^ size) _ ∙ ap (λ (n : ℕ). n + x % 2 ^ size) (mul-comm (2 ^ size) _))) in
     let power : 2 ^ rest * 2 ^ size * 2 ^ at ≡ 2 ^ 64 =

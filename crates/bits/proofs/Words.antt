@@ -9,7 +9,7 @@ use lib.ListN.{length}
 use Rattle.memory.specs.Bytes.{Bytes, value, bytesOf}
 use Rattle.bits.specs.declared.Order.{Order}
 use Rattle.bits.specs.Bits.{bit, frameBit, frame, place, written, packed, unpacked}
-use Rattle.bits.specs.Slots.{position, turned, field, withField, InSlot}
+use Rattle.bits.specs.Slots.{position, turned, bitField, withBitField, InSlot}
 use Rattle.memory.proofs.Tests.{lt-or-le}
 use Rattle.bits.proofs.Numbers.{number-ext}
 use Rattle.bits.proofs.Frames.{frame-ext, value-bit, bytesOf-frame}
@@ -25,14 +25,14 @@ module _ (o : Order) (start size : ℕ) (f : List ℕ) (bytes : Bytes f) (eight 
   unfolding word
   word-bit p h = turned-bit o (value f) p h ∙ value-bit f bytes (position o p)
 
-  run-unpacked : field (turned o (value f)) (position o start) size ≡ unpacked o start size f
+  run-unpacked : bitField (turned o (value f)) (position o start) size ≡ unpacked o start size f
   unfolding unpacked word
   run-unpacked =
       field-number _ _ _
       ∙ number-ext size _ _
       (λ i h. word-bit (position o start + i) (omega (arith, here .ends)) ∙ ap (frameBit f) (place-at o start size i here h))
 
-  slot-bit : (v p : ℕ) → p < 64 → bit (withField word (position o start) size v) (position o p) ≡ written o start v f size p
+  slot-bit : (v p : ℕ) → p < 64 → bit (withBitField word (position o start) size v) (position o p) ≡ written o start v f size p
   slot-bit v p h =
       ⊎-elim
       (λ below. with-field-below word from size v at below ∙ same (λ i k e. omega arith))
@@ -50,18 +50,18 @@ module _ (o : Order) (start size : ℕ) (f : List ℕ) (bytes : Bytes f) (eight 
           word-bit at (position-lt o p h) ∙ ap (frameBit f) (position-twice o p h)
           ∙ sym (written-other o start v f size p (λ i k e. apart i k (ap (position o) (sym e) ∙ along o start i (here .begins) (omega (arith, here .ends)) .at)))
 
-      own : (i : ℕ) → at ≡ from + i → i < size → bit (withField word from size v) at ≡ written o start v f size p
+      own : (i : ℕ) → at ≡ from + i → i < size → bit (withBitField word from size v) at ≡ written o start v f size p
       own i e k =
           let met : place o start i ≡ p = sym (place-at o start size i here k) ∙ ap (position o) (sym e) ∙ position-twice o p h in
-          ap (bit (withField word from size v)) e ∙ with-field-in word from size v i k
+          ap (bit (withBitField word from size v)) e ∙ with-field-in word from size v i k
           ∙ sym (written-own o start v f size i here k) ∙ ap (written o start v f size) met
 
-      above : (i : ℕ) → at ≡ from + (size + i) → bit (withField word from size v) at ≡ written o start v f size p
+      above : (i : ℕ) → at ≡ from + (size + i) → bit (withBitField word from size v) at ≡ written o start v f size p
       above i e =
-          ap (bit (withField word from size v)) e ∙ with-field-above word from size v i ∙ ap (bit word) (sym e)
+          ap (bit (withBitField word from size v)) e ∙ with-field-above word from size v i ∙ ap (bit word) (sym e)
           ∙ same (λ j k w. omega arith)
 
-  run-packed : (v : ℕ) → bytesOf 8 (turned o (withField (turned o (value f)) (position o start) size v)) ≡ packed o start size v f
+  run-packed : (v : ℕ) → bytesOf 8 (turned o (withBitField (turned o (value f)) (position o start) size v)) ≡ packed o start size v f
   unfolding packed word
   run-packed v =
       bytesOf-frame 8 _
@@ -78,9 +78,9 @@ module _ (o : Order) (at size : ℕ) (f : List ℕ) (bytes : Bytes f) (eight : l
   back : position o (position o at) ≡ at
   back = position-twice o at (omega (arith, slot .some, slot .inside))
 
-  pub slot-unpacked : field (turned o (value f)) at size ≡ unpacked o (position o at) size f
+  pub slot-unpacked : bitField (turned o (value f)) at size ≡ unpacked o (position o at) size f
   slot-unpacked = rw back at (run-unpacked o (position o at) size f bytes eight (slot-run o at size slot))
 
   pub slot-packed : (v : ℕ)
-      → bytesOf 8 (turned o (withField (turned o (value f)) at size v)) ≡ packed o (position o at) size v f
+      → bytesOf 8 (turned o (withBitField (turned o (value f)) at size v)) ≡ packed o (position o at) size v f
   slot-packed v = rw back at (run-packed o (position o at) size f bytes eight (slot-run o at size slot) v)

@@ -5,7 +5,7 @@ use mathlib.Core.List.{List, [], _∷_}
 use Prim.Native.Nat.{ℕ, zero, suc, _+_, _-_, _*_, _/_, _%_, _^_}
 use lib.Dec.{leb, ltb, eqb}
 use lib.ListN.{length, getD}
-use Rattle.memory.specs.Search.{pick, any}
+use Rattle.memory.specs.Search.{pick, anyBelow}
 use Rattle.bits.specs.declared.Order.{Order}
 use Rattle.bits.specs.declared.Order.the-variants.{Little, Big}
 
@@ -57,4 +57,4 @@ unpacked o start size f = number size (λ i. frameBit f (place o start i))
 
 -- the bits of its I-PDU that a message owns: those that its message bits go to
 unfoldable pub owns : Order → ℕ → ℕ → ℕ → Bool
-owns o start size p = any size (λ i. eqb (place o start i) p)
+owns o start size p = anyBelow size (λ i. eqb (place o start i) p)

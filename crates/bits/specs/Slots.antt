@@ -12,21 +12,21 @@ position Little p = p
 position Big p = 56 - 8 * (p / 8) + p % 8
 
 -- eight bytes in the other order
-unfoldable pub swapped : ℕ → ℕ
-swapped w = value (reverse (bytesOf 8 w))
+unfoldable pub bytesReversed : ℕ → ℕ
+bytesReversed w = value (reverse (bytesOf 8 w))
 
 -- bit q is bit `position o q` of w
 unfoldable pub turned : Order → ℕ → ℕ
 turned Little w = w
-turned Big w = swapped w
+turned Big w = bytesReversed w
 
 -- `size` bits of w, from bit `at` on
-unfoldable pub field : ℕ → ℕ → ℕ → ℕ
-field w at size = w / 2 ^ at % 2 ^ size
+unfoldable pub bitField : ℕ → ℕ → ℕ → ℕ
+bitField w at size = w / 2 ^ at % 2 ^ size
 
 -- w with the low `size` bits of x in their place
-unfoldable pub withField : ℕ → ℕ → ℕ → ℕ → ℕ
-withField w at size x = w - field w at size * 2 ^ at + x % 2 ^ size * 2 ^ at
+unfoldable pub withBitField : ℕ → ℕ → ℕ → ℕ → ℕ
+withBitField w at size x = w - bitField w at size * 2 ^ at + x % 2 ^ size * 2 ^ at
 
 -- the word of a slot in which just the bits of a message are 1
 unfoldable pub mask : Order → ℕ → ℕ → ℕ

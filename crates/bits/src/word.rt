@@ -2,11 +2,11 @@
 use super::Order;
 ghost use mathlib.Core.Path.{_≡_};
 ghost use Prim.Native.Nat.{_+_, _-_, _*_, _≤_, _<_, _^_};
-ghost use Rattle.bits.specs.Slots.{swapped, turned, withField, field};
+ghost use Rattle.bits.specs.Slots.{bytesReversed, turned, withBitField, bitField};
 
 // The word with its bytes in the other order.
 fn swap_bytes(word: u64) -> u64
-    ensures { λ r. ⌜ r ≡ swapped word ⌝ }
+    ensures { λ r. ⌜ r ≡ bytesReversed word ⌝ }
 {
     let b = word / 256;
     let c = b / 256;
@@ -45,7 +45,7 @@ pub fn power_of_two(n: u32) -> u64
 // `bits` bits of the word, from bit `at` on.
 pub(crate) fn field(word: u64, at: u32, bits: u32) -> u32
     requires { ⌜ (at < 64) × (bits ≤ 32) ⌝ }
-    ensures { λ r. ⌜ r ≡ field word at bits ⌝ }
+    ensures { λ r. ⌜ r ≡ bitField word at bits ⌝ }
 {
     (word / power_of_two(at) % power_of_two(bits)) as u32
 }
@@ -61,7 +61,7 @@ pub(crate) fn ones(at: u32, bits: u32) -> u64
 // The word with the low `bits` bits of `x` from bit `at` on.
 pub(crate) fn with_field(word: u64, at: u32, bits: u32, x: u32) -> u64
     requires { ⌜ (at + bits ≤ 64) × (at < 64) × (bits ≤ 32) ⌝ }
-    ensures { λ r. ⌜ r ≡ withField word at bits x ⌝ }
+    ensures { λ r. ⌜ r ≡ withBitField word at bits x ⌝ }
 {
     let p = power_of_two(at);
     let q = power_of_two(bits);

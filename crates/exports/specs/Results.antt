@@ -4,7 +4,7 @@ use mathlib.Core.Bool.{Bool, not}
 use mathlib.Core.List.{List}
 use Prim.Native.Nat.{ℕ}
 use lib.Dec.{eqb}
-use Rattle.layer.specs.Answers.{Outcome, numberOf, valueOf}
+use Rattle.calls.specs.Answers.{Outcome, numberOf, valueOf}
 use Rattle.exports.specs.declared.Answer.{Answer}
 
 pub record Result : Type 0 where

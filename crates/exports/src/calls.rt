@@ -5,7 +5,7 @@ use table::ObjectNumber;
 ghost use mathlib.Core.Bool.{not};
 ghost use mathlib.Core.List.{[]};
 ghost use mathlib.Core.Path.{_≡_};
-ghost use Rattle.layer.specs.Answers.{numberOf, valueOf};
+ghost use Rattle.calls.specs.Answers.{numberOf, valueOf};
 ghost use Rattle.layer.specs.Step.{start, stop, send, initialise, receive, status, marks, clearMarks, startPeriodic, stopPeriodic, indication, confirm, tick, step};
 ghost use Rattle.exports.specs.Results.{result, resultOf, isGood};
 

@@ -1,10 +1,11 @@
 -- What a start writes: 8,192 bytes, whatever was there.
 -- Assumes nothing.
 use mathlib.Core.List.{List}
-use mathlib.Core.Path.{_≡_, ap, _∙_}
+use mathlib.Core.Path.{_≡_, _∙_}
 use Prim.Native.Nat.{ℕ, _+_, _≤_, _<_}
 use native.Mathlib.Omega.{arith}
 use lib.ListN.{length, replicate, length-replicate}
+use Rattle.memory.specs.Bytes.{bytesOf, replaced}
 use Rattle.memory.specs.Search.{fold}
 use Rattle.memory.proofs.Search.{fold-keeps}
 use Rattle.table.specs.declared.Counts.{Counts}
@@ -13,16 +14,20 @@ use Rattle.table.specs.declared.Direction.the-variants.{Send, Receive}
 use Rattle.table.specs.declared.Object.{Object}
 use Rattle.table.specs.Decode.{Right}
 use Rattle.table.specs.Check.{depths}
-use Rattle.state.specs.Layout.{memorySize, objectRow, withObjectState}
+use Rattle.state.specs.Layout.{memorySize, withRunning, objectRow, withObjectState}
 use Rattle.state.proofs.Laws.{ipdu-length, object-length}
+use Rattle.state.proofs.Running.{running-length}
 use Rattle.message.specs.Objects.{object, Placed}
 use Rattle.message.proofs.Kept.{right-placed, pack-length}
 use Rattle.transmission.specs.Requests.{ipdu}
-use Rattle.layer.specs.Start.{blank, idle, firstTimer, startIpdu, unused, startAs, startObject, started}
+use Rattle.layer.specs.Start.{blank, idle, firstTimer, startIpdu, unused, startAs, startObject, prepared, started}
 
-pub cleared : (n : ℕ) → n ≡ memorySize → replicate n 0 ≡ blank
-unfolding blank
-cleared n e = ap (λ (k : ℕ). replicate k 0) e
+-- all bytes cleared, the I-PDUs' rows written, then the objects, then that the layer runs
+pub all-written : (t : List ℕ) (c : Counts) {size : ℕ} {zeros ipdus objects running : List ℕ} → size ≡ memorySize → zeros ≡ replicate size 0
+    → ipdus ≡ fold (c .ipdus) (startIpdu t) zeros → objects ≡ fold (c .objects) (startObject t c) ipdus → running ≡ replaced 0 (bytesOf 1 1) objects
+    → running ≡ started t c
+unfolding started prepared blank withRunning
+all-written t c size zeros ipdus objects running = rw (running, objects, ipdus, zeros, size)
 
 module _ (o : Object) (i first : ℕ) (m : List ℕ) (placed : Placed o m) (room : objectRow i + 16 ≤ length m) where
   start-as-length : (d : Direction) → length (startAs d o i first m) ≡ length m
@@ -45,10 +50,14 @@ module _ (t : List ℕ) (c : Counts) (right : Right t c) where
       (omega (arith, e, h, right .shape .objects)) (object t c i .direction)
       ∙ e
 
-  pub started-length : length (started t c) ≡ memorySize
-  unfolding started blank
-  started-length =
+  prepared-length : length (prepared t c) ≡ memorySize
+  unfolding prepared blank
+  prepared-length =
       fold-keeps (λ (m : List ℕ). length m ≡ memorySize) (c .objects) (startObject t c) start-object-length
       (fold (c .ipdus) (startIpdu t) (replicate memorySize 0))
       (fold-keeps (λ (m : List ℕ). length m ≡ memorySize) (c .ipdus) (startIpdu t) start-ipdu-length
       (replicate memorySize 0) (length-replicate {A = ℕ} memorySize 0))
+
+  pub started-length : length (started t c) ≡ memorySize
+  unfolding started
+  started-length = running-length (prepared t c) 1 prepared-length

@@ -1,5 +1,3 @@
-pub mod Answers
+pub mod Admission
 pub mod Start
-pub mod Calls
-pub mod Tick
 pub mod Step

@@ -14,11 +14,11 @@ use Rattle.table.specs.declared.Verdict.the-variants.{Accepted, WrongHeader, Wr
 use Rattle.table.specs.Check.{check, depths}
 use Rattle.state.specs.declared.IpduState.{IpduState}
 use Rattle.state.specs.declared.ObjectState.{ObjectState}
-use Rattle.state.specs.Layout.{memorySize, withIpduState, withObjectState}
+use Rattle.state.specs.Layout.{memorySize, withRunning, withIpduState, withObjectState}
 use Rattle.message.specs.Objects.{object, pack}
 use Rattle.transmission.specs.Requests.{ipdu}
-use Rattle.layer.specs.declared.Answer.the-variants.{Done, WrongTable, WrongMemory}
-use Rattle.layer.specs.Answers.{Outcome, outcome}
+use Rattle.calls.specs.declared.Answer.the-variants.{Done, WrongTable, WrongMemory}
+use Rattle.calls.specs.Answers.{Outcome, outcome}
 
 -- bytes that the list of stored numbers does not name are 0
 unfoldable pub blank : List ℕ
@@ -67,9 +67,13 @@ startAs Receive o i queue m = withObjectState m i (unused (o .initial) (o .initi
 abbrev pub startObject : List ℕ → Counts → ℕ → List ℕ → List ℕ
 startObject t c i m = startAs (object t c i .direction) (object t c i) i (depths t c i) m
 
+-- all rows written, the layer not running yet
+unfoldable pub prepared : List ℕ → Counts → List ℕ
+prepared t c = fold (c .objects) (startObject t c) (fold (c .ipdus) (startIpdu t) blank)
+
 -- working memory after a start, a function of the table alone
 unfoldable pub started : List ℕ → Counts → List ℕ
-started t c = fold (c .objects) (startObject t c) (fold (c .ipdus) (startIpdu t) blank)
+started t c = withRunning (prepared t c) 1
 
 -- start looks at the table and at the length of memory alone, and writes the first 8,192 bytes
 abbrev pub startOf : Verdict → List ℕ → List ℕ → Outcome

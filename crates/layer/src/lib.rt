@@ -1,65 +1,167 @@
-// The interaction layer: the calls of document 01 over a table and a working memory that the caller lends. A public call checks
-// table, memory and numbers itself. A call with `_checked` in its name works on a table and a memory that were found right, so
-// that a caller which makes many calls over one table pays for the check once.
-mod calls;
+// The interaction layer: the calls of document 01 over a table and a working memory that the caller lends. Each checks table,
+// memory and numbers itself; a refused one changes no byte.
 mod checks;
-mod frames;
-mod objects;
-mod sending;
 mod starting;
-mod ticking;
 
-pub use calls::clear_marks;
-pub use calls::confirm;
-pub use calls::indication;
-pub use calls::initialise;
-pub use calls::marks;
-pub use calls::periodic_checked;
-pub use calls::receive;
-pub use calls::send;
-pub use calls::start_periodic;
-pub use calls::status;
-pub use calls::stop;
-pub use calls::stop_checked;
-pub use calls::stop_periodic;
-pub use calls::tick;
 pub use checks::admit;
-pub use checks::number_of;
-pub use checks::value_of;
-pub use frames::confirm_checked;
-pub use frames::indication_checked;
-pub use objects::clear_marks_checked;
-pub use objects::initialise_checked;
-pub use objects::marks_checked;
-pub use objects::receive_checked;
-pub use objects::status_checked;
-pub use sending::send_checked;
+pub use calls::number_of;
+pub use calls::value_of;
+pub use calls::Answer;
 pub use starting::start;
-pub use starting::start_checked;
+pub use state::AREA_SIZE;
 pub use state::MEMORY_SIZE;
-pub use ticking::tick_checked;
-pub use transmission::AREA_SIZE;
 
-// What a call answers: done, with its result, or why not.
-pub enum Answer {
-    Done(u32),
-    WrongId,
-    WrongLength,
-    Limit(u32),
-    NoMessage,
-    WrongTable,
-    WrongMemory,
-    Stopped,
-    NotRequested,
-}
+use table::Counts;
+use table::IpduNumber;
+use table::ObjectNumber;
+ghost use mathlib.Core.List.{[]};
+ghost use mathlib.Core.Path.{_≡_};
+ghost use Rattle.calls.specs.Answers.{outcome};
+ghost use Rattle.layer.specs.Step.{start, stop, send, initialise, receive, status, marks, clearMarks, startPeriodic, stopPeriodic, indication, confirm, tick, step};
 
 // Whether a call goes on, with the counts of its table, or is refused before it looks at its own numbers.
 pub enum Admission {
-    Admitted(table::Counts),
+    Admitted(Counts),
     Refused(Answer),
 }
 
-// The kind of a send object and the direction of a send I-PDU in the table, and of a receive one.
-const SENT: u32 = 1;
+// Notes that the layer is stopped.
+pub fn stop(t: &[u8], m: &mut [u8]) -> Answer
+    ensures { λ r. ⌜ outcome r (now (m .exit)) [] ≡ step (now (t .entry)) stop (now (m .entry)) ⌝ }
+{
+    let admission = checks::admit(t, m, true);
+    match admission {
+        Admission::Admitted(c) => calls::stop(&mut m[..MEMORY_SIZE]),
+        Admission::Refused(answer) => answer,
+    }
+}
 
-const RECEIVED: u32 = 2;
+// Sends a value of a message object. The result has a bit for the I-PDU that was requested; its bytes are in its slot of the
+// request area.
+pub fn send(t: &[u8], m: &mut [u8], area: &mut [u8], number: ObjectNumber, v: u32) -> Answer
+    ensures { λ r. ⌜ outcome r (now (m .exit)) (now (area .exit)) ≡ step (now (t .entry)) (send (number .0) v (now (area .entry))) (now (m .entry)) ⌝ }
+{
+    let admission = checks::admit(t, m, area.len() >= AREA_SIZE);
+    match admission {
+        Admission::Admitted(c) => calls::send(t, c, &mut m[..MEMORY_SIZE], area, number, v),
+        Admission::Refused(answer) => answer,
+    }
+}
+
+// Sets the value of a message object, with no filter and no request.
+pub fn initialise(t: &[u8], m: &mut [u8], number: ObjectNumber, v: u32) -> Answer
+    ensures { λ r. ⌜ outcome r (now (m .exit)) [] ≡ step (now (t .entry)) (initialise (number .0) v) (now (m .entry)) ⌝ }
+{
+    let admission = checks::admit(t, m, true);
+    match admission {
+        Admission::Admitted(c) => calls::initialise(t, c, &mut m[..MEMORY_SIZE], number, v),
+        Admission::Refused(answer) => answer,
+    }
+}
+
+// The value of an unqueued receive object, or the oldest value of a queued one, which is then removed.
+pub fn receive(t: &[u8], m: &mut [u8], number: ObjectNumber) -> Answer
+    ensures { λ r. ⌜ outcome r (now (m .exit)) [] ≡ step (now (t .entry)) (receive (number .0)) (now (m .entry)) ⌝ }
+{
+    let admission = checks::admit(t, m, true);
+    match admission {
+        Admission::Admitted(c) => calls::receive(t, c, &mut m[..MEMORY_SIZE], number),
+        Admission::Refused(answer) => answer,
+    }
+}
+
+// Whether a queued object has a value, and whether one was lost since the last receive.
+pub fn status(t: &[u8], m: &[u8], number: ObjectNumber) -> Answer
+    ensures { λ r. ⌜ outcome r (now (m .entry)) [] ≡ step (now (t .entry)) (status (number .0)) (now (m .entry)) ⌝ }
+{
+    let admission = checks::admit(t, m, true);
+    match admission {
+        Admission::Admitted(c) => calls::status(t, c, &m[..MEMORY_SIZE], number),
+        Admission::Refused(answer) => answer,
+    }
+}
+
+// The marks of a message object, added.
+pub fn marks(t: &[u8], m: &[u8], number: ObjectNumber) -> Answer
+    ensures { λ r. ⌜ outcome r (now (m .entry)) [] ≡ step (now (t .entry)) (marks (number .0)) (now (m .entry)) ⌝ }
+{
+    let admission = checks::admit(t, m, true);
+    match admission {
+        Admission::Admitted(c) => calls::marks(t, c, &m[..MEMORY_SIZE], number),
+        Admission::Refused(answer) => answer,
+    }
+}
+
+// Clears the marks of a message object.
+pub fn clear_marks(t: &[u8], m: &mut [u8], number: ObjectNumber) -> Answer
+    ensures { λ r. ⌜ outcome r (now (m .exit)) [] ≡ step (now (t .entry)) (clearMarks (number .0)) (now (m .entry)) ⌝ }
+{
+    let admission = checks::admit(t, m, true);
+    match admission {
+        Admission::Admitted(c) => calls::clear_marks(t, c, &mut m[..MEMORY_SIZE], number),
+        Admission::Refused(answer) => answer,
+    }
+}
+
+// Starts the period of each I-PDU that has one.
+pub fn start_periodic(t: &[u8], m: &mut [u8]) -> Answer
+    ensures { λ r. ⌜ outcome r (now (m .exit)) [] ≡ step (now (t .entry)) startPeriodic (now (m .entry)) ⌝ }
+{
+    let admission = checks::admit(t, m, true);
+    match admission {
+        Admission::Admitted(c) => calls::periodic(t, c, &mut m[..MEMORY_SIZE], true),
+        Admission::Refused(answer) => answer,
+    }
+}
+
+// Halts the period of each I-PDU that has one.
+pub fn stop_periodic(t: &[u8], m: &mut [u8]) -> Answer
+    ensures { λ r. ⌜ outcome r (now (m .exit)) [] ≡ step (now (t .entry)) stopPeriodic (now (m .entry)) ⌝ }
+{
+    let admission = checks::admit(t, m, true);
+    match admission {
+        Admission::Admitted(c) => calls::periodic(t, c, &mut m[..MEMORY_SIZE], false),
+        Admission::Refused(answer) => answer,
+    }
+}
+
+// Takes over the bytes of a receive I-PDU, or notes that they were not received.
+pub fn indication(t: &[u8], m: &mut [u8], number: IpduNumber, good: bool, bytes: &[u8]) -> Answer
+    ensures { λ r. ⌜ outcome r (now (m .exit)) [] ≡ step (now (t .entry)) (indication (number .0) good (now (bytes .entry))) (now (m .entry)) ⌝ }
+{
+    let admission = checks::admit(t, m, true);
+    match admission {
+        Admission::Admitted(c) => calls::indication(
+            t,
+            c,
+            &mut m[..MEMORY_SIZE],
+            number,
+            good,
+            bytes,
+        ),
+        Admission::Refused(answer) => answer,
+    }
+}
+
+// Notes that an open request of a send I-PDU was sent, or was not.
+pub fn confirm(t: &[u8], m: &mut [u8], number: IpduNumber, good: bool) -> Answer
+    ensures { λ r. ⌜ outcome r (now (m .exit)) [] ≡ step (now (t .entry)) (confirm (number .0) good) (now (m .entry)) ⌝ }
+{
+    let admission = checks::admit(t, m, true);
+    match admission {
+        Admission::Admitted(c) => calls::confirm(t, c, &mut m[..MEMORY_SIZE], number, good),
+        Admission::Refused(answer) => answer,
+    }
+}
+
+// Moves all times on by one tick. The result has a bit for each I-PDU that was requested; its bytes are in its slot of the
+// request area.
+pub fn tick(t: &[u8], m: &mut [u8], area: &mut [u8]) -> Answer
+    ensures { λ r. ⌜ outcome r (now (m .exit)) (now (area .exit)) ≡ step (now (t .entry)) (tick (now (area .entry))) (now (m .entry)) ⌝ }
+{
+    let admission = checks::admit(t, m, area.len() >= AREA_SIZE);
+    match admission {
+        Admission::Admitted(c) => calls::tick(t, c, &mut m[..MEMORY_SIZE], area),
+        Admission::Refused(answer) => answer,
+    }
+}

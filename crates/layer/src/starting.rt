@@ -1,8 +1,9 @@
 // Start: all of working memory, written from the table.
-use super::Answer;
+use calls::Answer;
 use state::IpduState;
 use state::MEMORY_SIZE;
 use state::ObjectState;
+use state::RUNNING;
 use table::Counts;
 use table::Direction;
 use table::Ipdu;
@@ -21,7 +22,7 @@ ghost use Rattle.table.specs.Check.{Shape, depths};
 ghost use Rattle.table.specs.Decode.{Right};
 ghost use Rattle.state.specs.Layout.{memorySize, objectRow};
 ghost use Rattle.message.specs.Objects.{Placed};
-ghost use Rattle.layer.specs.Answers.{outcome};
+ghost use Rattle.calls.specs.Answers.{outcome};
 ghost use Rattle.layer.specs.Start.{idle, firstTimer, startIpdu, unused, startAs, startObject, started, startOf};
 ghost use Rattle.layer.specs.Step.{start, step};
 
@@ -31,7 +32,7 @@ pub fn start(t: &[u8], m: &mut [u8]) -> Answer
 {
     let verdict = table::check(t);
     match verdict {
-        Verdict::Accepted(c) => start_checked(t, c, m),
+        Verdict::Accepted(c) => start_accepted(t, c, m),
         Verdict::WrongHeader => Answer::WrongTable,
         Verdict::WrongIpdu(_) => Answer::WrongTable,
         Verdict::WrongObject(_) => Answer::WrongTable,
@@ -39,7 +40,7 @@ pub fn start(t: &[u8], m: &mut [u8]) -> Answer
 }
 
 // Starts the layer over a table that was accepted.
-pub fn start_checked(t: &[u8], c: Counts, m: &mut [u8]) -> Answer
+fn start_accepted(t: &[u8], c: Counts, m: &mut [u8]) -> Answer
     requires { ⌜ Right (now t) c ⌝ }
     ensures { λ r. ⌜ outcome r (now (m .exit)) [] ≡ startOf (Accepted c) (now (t .entry)) (now (m .entry)) ⌝ }
 {
@@ -59,6 +60,7 @@ fn write_all(t: &[u8], c: Counts, m: &mut [u8])
     memory::clear(m);
     start_ipdus(t, c, m);
     start_objects(t, c, m);
+    memory::write8(m, RUNNING, 1);
 }
 
 fn start_ipdus(t: &[u8], c: Counts, m: &mut [u8])

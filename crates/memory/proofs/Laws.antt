@@ -12,12 +12,12 @@ use lib.Arith.{mod-mul}
 use lib.Pow.{pow-add}
 use lib.Seq.{ext-getD, sets, sets-eq, take-nil, take-all, take-at, drop-at, length-take-le, getD-take, getD-drop, getD-append-add}
 use Rattle.memory.proofs.Tests.{lt-or-le}
-use Rattle.memory.specs.Bytes.{Bytes, value, bytesOf, part, get, replaced}
+use Rattle.memory.specs.Bytes.{Bytes, value, bytesOf, part, numberAt, replaced}
 
 -- a number is its first byte and 256 times the rest
-pub get-step : (k at : ℕ) (m : List ℕ) → get (suc k) at m ≡ getD m at 0 + 256 * get k (at + 1) m
-unfolding get part value
-get-step k at m = rw (add-one at) (go at m)
+pub number-step : (k at : ℕ) (m : List ℕ) → numberAt (suc k) at m ≡ getD m at 0 + 256 * numberAt k (at + 1) m
+unfolding numberAt part value
+number-step k at m = rw (add-one at) (go at m)
   where
     go : (at : ℕ) (m : List ℕ) → value (take (suc k) (drop at m)) ≡ getD m at 0 + 256 * value (take k (drop (suc at) m))
     go zero [] = rw (take-nil k)
@@ -25,29 +25,29 @@ get-step k at m = rw (add-one at) (go at m)
     go (suc at) [] = rw (take-nil k)
     go (suc at) (b ∷ m) = go at m
 
-pub get-none : (at : ℕ) (m : List ℕ) → get 0 at m ≡ 0
-unfolding get part value
-get-none at m = refl
+pub number-none : (at : ℕ) (m : List ℕ) → numberAt 0 at m ≡ 0
+unfolding numberAt part value
+number-none at m = refl
 
-pub get-one : (at : ℕ) (m : List ℕ)
-    → get 1 at m ≡ getD m at 0
-get-one at m =
-    omega (arith, get-none (at + 1) m, get-step 0 at m)
+pub number-one : (at : ℕ) (m : List ℕ)
+    → numberAt 1 at m ≡ getD m at 0
+number-one at m =
+    omega (arith, number-none (at + 1) m, number-step 0 at m)
 
-pub get-two : (at : ℕ) (m : List ℕ)
-    → get 2 at m ≡ getD m at 0 + 256 * (getD m (at + 1) 0)
-get-two at m =
-    omega (arith, get-none (at + 1 + 1) m, get-step 1 at m, get-step 0 (at + 1) m)
+pub number-two : (at : ℕ) (m : List ℕ)
+    → numberAt 2 at m ≡ getD m at 0 + 256 * (getD m (at + 1) 0)
+number-two at m =
+    omega (arith, number-none (at + 1 + 1) m, number-step 1 at m, number-step 0 (at + 1) m)
 
-pub get-four : (at : ℕ) (m : List ℕ)
-    → get 4 at m ≡ getD m at 0 + 256 * (getD m (at + 1) 0 + 256 * (getD m (at + 1 + 1) 0 + 256 * (getD m (at + 1 + 1 + 1) 0)))
-get-four at m =
-    omega (arith, get-none (at + 1 + 1 + 1 + 1) m, get-step 3 at m, get-step 2 (at + 1) m, get-step 1 (at + 1 + 1) m, get-step 0 (at + 1 + 1 + 1) m)
+pub number-four : (at : ℕ) (m : List ℕ)
+    → numberAt 4 at m ≡ getD m at 0 + 256 * (getD m (at + 1) 0 + 256 * (getD m (at + 1 + 1) 0 + 256 * (getD m (at + 1 + 1 + 1) 0)))
+number-four at m =
+    omega (arith, number-none (at + 1 + 1 + 1 + 1) m, number-step 3 at m, number-step 2 (at + 1) m, number-step 1 (at + 1 + 1) m, number-step 0 (at + 1 + 1 + 1) m)
 
-pub get-eight : (at : ℕ) (m : List ℕ)
-    → get 8 at m ≡ getD m at 0 + 256 * (getD m (at + 1) 0 + 256 * (getD m (at + 1 + 1) 0 + 256 * (getD m (at + 1 + 1 + 1) 0 + 256 * (getD m (at + 1 + 1 + 1 + 1) 0 + 256 * (getD m (at + 1 + 1 + 1 + 1 + 1) 0 + 256 * (getD m (at + 1 + 1 + 1 + 1 + 1 + 1) 0 + 256 * (getD m (at + 1 + 1 + 1 + 1 + 1 + 1 + 1) 0)))))))
-get-eight at m =
-    omega (arith, get-none (at + 1 + 1 + 1 + 1 + 1 + 1 + 1 + 1) m, get-step 7 at m, get-step 6 (at + 1) m, get-step 5 (at + 1 + 1) m, get-step 4 (at + 1 + 1 + 1) m, get-step 3 (at + 1 + 1 + 1 + 1) m, get-step 2 (at + 1 + 1 + 1 + 1 + 1) m, get-step 1 (at + 1 + 1 + 1 + 1 + 1 + 1) m, get-step 0 (at + 1 + 1 + 1 + 1 + 1 + 1 + 1) m)
+pub number-eight : (at : ℕ) (m : List ℕ)
+    → numberAt 8 at m ≡ getD m at 0 + 256 * (getD m (at + 1) 0 + 256 * (getD m (at + 1 + 1) 0 + 256 * (getD m (at + 1 + 1 + 1) 0 + 256 * (getD m (at + 1 + 1 + 1 + 1) 0 + 256 * (getD m (at + 1 + 1 + 1 + 1 + 1) 0 + 256 * (getD m (at + 1 + 1 + 1 + 1 + 1 + 1) 0 + 256 * (getD m (at + 1 + 1 + 1 + 1 + 1 + 1 + 1) 0)))))))
+number-eight at m =
+    omega (arith, number-none (at + 1 + 1 + 1 + 1 + 1 + 1 + 1 + 1) m, number-step 7 at m, number-step 6 (at + 1) m, number-step 5 (at + 1 + 1) m, number-step 4 (at + 1 + 1 + 1) m, number-step 3 (at + 1 + 1 + 1 + 1) m, number-step 2 (at + 1 + 1 + 1 + 1 + 1) m, number-step 1 (at + 1 + 1 + 1 + 1 + 1 + 1) m, number-step 0 (at + 1 + 1 + 1 + 1 + 1 + 1 + 1) m)
 
 pub bytesOf-length : (k x : ℕ) → length (bytesOf k x) ≡ k
 unfolding bytesOf
@@ -129,9 +129,9 @@ value-bytesOf (suc k) x =
     rw (pow-succ', mul-comm 256 (256 ^ k), halves, value-bytesOf k (x / 256)) (omega arith)
 
 -- what was put there is read there
-pub get-replaced : (k at x : ℕ) (m : List ℕ) → at + k ≤ length m → get k at (replaced at (bytesOf k x) m) ≡ x % 256 ^ k
-unfolding get
-get-replaced k at x m h =
+pub number-replaced : (k at x : ℕ) (m : List ℕ) → at + k ≤ length m → numberAt k at (replaced at (bytesOf k x) m) ≡ x % 256 ^ k
+unfolding numberAt
+number-replaced k at x m h =
     let long : length (bytesOf k x) ≡ k = bytesOf-length k x in
     ap value (rw long at (part-replaced at (bytesOf k x) m (omega arith))) ∙ value-bytesOf k x
 
@@ -151,10 +151,10 @@ part-apart at f m j k h side =
     away : (i : ℕ) → i < k → (j + i < at) ⊎ (at + length f ≤ j + i)
     away i b = ⊎-elim (λ (before : j + k ≤ at). inl (omega arith)) (λ (after : at + length f ≤ j). inr (omega arith)) side
 
-pub get-apart : (at : ℕ) (f m : List ℕ) (j k : ℕ) → at + length f ≤ length m → (j + k ≤ at) ⊎ (at + length f ≤ j)
-    → get k j (replaced at f m) ≡ get k j m
-unfolding get
-get-apart at f m j k h side = ap value (part-apart at f m j k h side)
+pub number-apart : (at : ℕ) (f m : List ℕ) (j k : ℕ) → at + length f ≤ length m → (j + k ≤ at) ⊎ (at + length f ≤ j)
+    → numberAt k j (replaced at f m) ≡ numberAt k j m
+unfolding numberAt
+number-apart at f m j k h side = ap value (part-apart at f m j k h side)
 
 -- the low bytes of a number of bytes are its first bytes
 pub value-take : (k : ℕ) (f : List ℕ) → Bytes f → value (take k f) ≡ value f % 256 ^ k
@@ -204,8 +204,8 @@ part-front at n k m h = take-front n k (drop at m) h
 
 -- the first n of 8 bytes with zeros to 8, as a number
 pub bytesOf-front : (n at : ℕ) (m : List ℕ) → Bytes m → n ≤ 8 → at + 8 ≤ length m
-    → bytesOf 8 (get 8 at m % 256 ^ n) ≡ part at n m ++ replicate (8 - n) 0
-unfolding get part
+    → bytesOf 8 (numberAt 8 at m % 256 ^ n) ≡ part at n m ++ replicate (8 - n) 0
+unfolding numberAt part
 bytesOf-front n at m bs low room =
     let whole : Bytes (drop at m) = λ i. rw (getD-drop at m i 0) (bs (at + i)) in
     let first : Bytes (take 8 (drop at m)) = part-bytes at 8 m bs in
@@ -218,9 +218,9 @@ bytesOf-front n at m bs low room =
 -- ---- bytes stay bytes
 
 -- a number of k bytes
-pub get-lt : (k at : ℕ) (m : List ℕ) → Bytes m → get k at m < 256 ^ k
-unfolding get part
-get-lt k at m bs =
+pub number-lt : (k at : ℕ) (m : List ℕ) → Bytes m → numberAt k at m < 256 ^ k
+unfolding numberAt part
+number-lt k at m bs =
     let whole : Bytes (drop at m) = λ i. rw (getD-drop at m i 0) (bs (at + i)) in
     let low : value (drop at m) % 256 ^ k < 256 ^ k = mod-lt (value (drop at m)) (one-le-pow k 256 (zero-lt-suc 255)) in
     omega (arith, low, value-take k (drop at m) whole)

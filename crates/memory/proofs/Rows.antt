@@ -9,10 +9,10 @@ use native.Mathlib.Omega.{arith}
 use borrow.Author.Tests.{leb-true}
 use lib.Dec.{leb}
 use lib.ListN.{length}
-use Rattle.memory.specs.Bytes.{Bytes, value, bytesOf, get, part, replaced}
+use Rattle.memory.specs.Bytes.{Bytes, value, bytesOf, numberAt, part, replaced}
 use Rattle.memory.specs.Rows.{Field, put, rising}
 use Rattle.memory.proofs.Tests.{and-split}
-use Rattle.memory.proofs.Laws.{bytesOf-length, bytesOf-bytes, replaced-length, replaced-bytes, part-apart, get-replaced}
+use Rattle.memory.proofs.Laws.{bytesOf-length, bytesOf-bytes, replaced-length, replaced-bytes, part-apart, number-replaced}
 
 -- rising fields end where they should
 pub rising-end : (from end : ℕ) (fs : List Field) → rising from end fs ≡ true → from ≤ end
@@ -55,10 +55,10 @@ put-apart a from end (f ∷ fs) m e room j w side =
 -- each field of the row holds the low bytes of what was put
 abbrev pub Holds : ℕ → List Field → List ℕ → Type 0
 Holds a [] m = Unit {0}
-Holds a (f ∷ fs) m = (get (f .width) (a + f .offset) m ≡ f .value % 256 ^ f .width) × Holds a fs m
+Holds a (f ∷ fs) m = (numberAt (f .width) (a + f .offset) m ≡ f .value % 256 ^ f .width) × Holds a fs m
 
 pub put-holds : (a from end : ℕ) (fs : List Field) (m : List ℕ) → rising from end fs ≡ true → a + end ≤ length m → Holds a fs (put a fs m)
-unfolding get
+unfolding numberAt
 put-holds a from end [] m e room = tt
 put-holds a from end (f ∷ fs) m e room =
     let parts = and-split (leb from (f .offset)) (rising (f .offset + f .width) end fs) e in
@@ -67,7 +67,7 @@ put-holds a from end (f ∷ fs) m e room =
     let same : length next ≡ length m = field-length a end f m ends room in
     let there : a + end ≤ length next = omega (arith, same) in (
       ap value (put-apart a (f .offset + f .width) end fs next (parts .1) there (a + f .offset) (f .width) (inl (omega arith)))
-          ∙ get-replaced (f .width) (a + f .offset) (f .value) m (omega arith),
+          ∙ number-replaced (f .width) (a + f .offset) (f .value) m (omega arith),
       put-holds a (f .offset + f .width) end fs next (parts .1) there,
     )
 

@@ -6,7 +6,7 @@ use mathlib.Core.Path.{_≡_, refl, sym, ap, _∙_}
 use Prim.Native.Nat.{ℕ, zero, suc, _+_, _≤_, _<_, zero-le, suc-le-suc}
 use native.Mathlib.Nat.{le-refl, le-of-suc-le-suc, not-suc-le-zero, le-of-lt}
 use native.Mathlib.Omega.{arith}
-use Rattle.memory.specs.Search.{pick, any, least, sum, fold}
+use Rattle.memory.specs.Search.{pick, anyBelow, least, sumBelow, fold}
 use Rattle.memory.proofs.Tests.{lt-or-le, eq-or-ne, true-or-false, true-not-false, or-split}
 
 -- what holds of each number below n, and of n, holds of each below suc n
@@ -14,18 +14,18 @@ pub below-suc {ℓ} : {P : ℕ → Type ℓ} {n : ℕ} → ((k : ℕ) → k < n 
 below-suc {P = P} {n = n} all here k h =
     ⊎-elim (λ (e : k ≡ n). rw e here) (λ (ne : k ≡ n → ⊥). all k (omega arith)) (eq-or-ne k n)
 
-pub any-none : (n : ℕ) (f : ℕ → Bool) → ((k : ℕ) → k < n → f k ≡ false) → any n f ≡ false
+pub any-none : (n : ℕ) (f : ℕ → Bool) → ((k : ℕ) → k < n → f k ≡ false) → anyBelow n f ≡ false
 any-none zero f none = refl
 any-none (suc n) f none = rw (any-none n f (λ k h. none k (omega arith))) (none n (le-refl (suc n)))
 
-pub any-false : (n : ℕ) (f : ℕ → Bool) → any n f ≡ false → (k : ℕ) → k < n → f k ≡ false
+pub any-false : (n : ℕ) (f : ℕ → Bool) → anyBelow n f ≡ false → (k : ℕ) → k < n → f k ≡ false
 any-false zero f e k h = absurd (not-suc-le-zero h)
 any-false (suc n) f e k h =
-    let parts = or-split (any n f) (f n) e in
+    let parts = or-split (anyBelow n f) (f n) e in
     below-suc {P = λ k. f k ≡ false} (any-false n f (parts .0)) (parts .1) k h
 
-pub any-some : (n : ℕ) (f : ℕ → Bool) (k : ℕ) → k < n → f k ≡ true → any n f ≡ true
-any-some n f k h e = ⊎-elim (λ t. t) (λ t. absurd (true-not-false e (any-false n f t k h))) (true-or-false (any n f))
+pub any-some : (n : ℕ) (f : ℕ → Bool) (k : ℕ) → k < n → f k ≡ true → anyBelow n f ≡ true
+any-some n f k h e = ⊎-elim (λ t. t) (λ t. absurd (true-not-false e (any-false n f t k h))) (true-or-false (anyBelow n f))
 
 pub least-none : (n : ℕ) (f : ℕ → Bool) → ((k : ℕ) → k < n → f k ≡ false) → least n f ≡ n
 least-none zero f none = refl
@@ -61,7 +61,7 @@ least-before n f k h = go (found n f)
     go (nowhere none) = none k (omega (arith, least-none n f none))
 
 -- a number that has the test
-pub any-true : (n : ℕ) (f : ℕ → Bool) → any n f ≡ true → (k : ℕ) × (k < n) × (f k ≡ true)
+pub any-true : (n : ℕ) (f : ℕ → Bool) → anyBelow n f ≡ true → (k : ℕ) × (k < n) × (f k ≡ true)
 any-true n f e = go (found n f)
   where
     go : Found n f → (k : ℕ) × (k < n) × (f k ≡ true)
@@ -74,7 +74,7 @@ picked P true x y p q = p refl
 picked P false x y p q = q refl
 
 -- the sum of more numbers is no smaller
-pub sum-more : (n k : ℕ) (f : ℕ → ℕ) → k ≤ n → sum k f ≤ sum n f
+pub sum-more : (n k : ℕ) (f : ℕ → ℕ) → k ≤ n → sumBelow k f ≤ sumBelow n f
 sum-more zero zero f h = zero-le
 sum-more zero (suc k) f h = absurd (omega arith)
 sum-more (suc n) k f h =

@@ -23,8 +23,8 @@ unfoldable pub part : ℕ → ℕ → List ℕ → List ℕ
 part at k m = take k (drop at m)
 
 -- the number in the k bytes from `at` on
-unfoldable pub get : ℕ → ℕ → List ℕ → ℕ
-get k at m = value (part at k m)
+unfoldable pub numberAt : ℕ → ℕ → List ℕ → ℕ
+numberAt k at m = value (part at k m)
 
 -- f in the place of as many bytes from `at` on
 unfoldable pub replaced : ℕ → List ℕ → List ℕ → List ℕ

@@ -12,8 +12,8 @@ pub record Field : Type 0 where
   pub width : ℕ
   pub value : ℕ
 
-abbrev pub field : ℕ → ℕ → ℕ → Field
-field o w v = record { offset = o; width = w; value = v }
+abbrev pub fieldAt : ℕ → ℕ → ℕ → Field
+fieldAt o w v = record { offset = o; width = w; value = v }
 
 -- the fields of the row at a, put one after the other
 abbrev pub put : ℕ → List Field → List ℕ → List ℕ

@@ -8,9 +8,9 @@ pick true a b = a
 pick false a b = b
 
 -- some number below n has the test
-abbrev pub any : ℕ → (ℕ → Bool) → Bool
-any zero f = false
-any (suc n) f = any n f || f n
+abbrev pub anyBelow : ℕ → (ℕ → Bool) → Bool
+anyBelow zero f = false
+anyBelow (suc n) f = anyBelow n f || f n
 
 -- the lowest number below n that has the test, or n where none has
 abbrev pub least : ℕ → (ℕ → Bool) → ℕ
@@ -18,9 +18,9 @@ least zero f = 0
 least (suc n) f = pick (f 0) 0 (suc (least n (λ k. f (suc k))))
 
 -- f 0 + f 1 + .. + f (n - 1)
-abbrev pub sum : ℕ → (ℕ → ℕ) → ℕ
-sum zero f = 0
-sum (suc n) f = sum n f + f n
+abbrev pub sumBelow : ℕ → (ℕ → ℕ) → ℕ
+sumBelow zero f = 0
+sumBelow (suc n) f = sumBelow n f + f n
 
 -- turn 0, then turn 1, .., then turn (n - 1)
 abbrev pub fold {ℓ} : {A : Type ℓ} → ℕ → (ℕ → A → A) → A → A

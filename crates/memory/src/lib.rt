@@ -2,7 +2,7 @@
 ghost use mathlib.Core.Path.{_≡_};
 ghost use Prim.Native.Nat.{_+_, _≤_, _<_, _^_};
 ghost use lib.ListN.{length, replicate};
-ghost use Rattle.memory.specs.Bytes.{bytesOf, get, replaced};
+ghost use Rattle.memory.specs.Bytes.{bytesOf, numberAt, replaced};
 
 fn wide(x: u8) -> u64
     ensures { λ r. ⌜ (r ≡ x) × (r < 256) ⌝ }
@@ -13,7 +13,7 @@ fn wide(x: u8) -> u64
 // The byte at `at`.
 pub fn read8(m: &[u8], at: usize) -> u32
     requires { ⌜ at + 1 ≤ length (now m) ⌝ }
-    ensures { λ r. ⌜ (r ≡ get 1 at (now (m .entry))) × (r < 256) ⌝ }
+    ensures { λ r. ⌜ (r ≡ numberAt 1 at (now (m .entry))) × (r < 256) ⌝ }
 {
     m[at] as u32
 }
@@ -21,7 +21,7 @@ pub fn read8(m: &[u8], at: usize) -> u32
 // The two bytes from `at` on, as a number.
 pub fn read16(m: &[u8], at: usize) -> u32
     requires { ⌜ at + 2 ≤ length (now m) ⌝ }
-    ensures { λ r. ⌜ (r ≡ get 2 at (now (m .entry))) × (r < 2 ^ 16) ⌝ }
+    ensures { λ r. ⌜ (r ≡ numberAt 2 at (now (m .entry))) × (r < 2 ^ 16) ⌝ }
 {
     let b = at + 1;
     (wide(m[at]) + 256 * wide(m[b])) as u32
@@ -30,7 +30,7 @@ pub fn read16(m: &[u8], at: usize) -> u32
 // The four bytes from `at` on, as a number.
 pub fn read32(m: &[u8], at: usize) -> u32
     requires { ⌜ at + 4 ≤ length (now m) ⌝ }
-    ensures { λ r. ⌜ r ≡ get 4 at (now (m .entry)) ⌝ }
+    ensures { λ r. ⌜ r ≡ numberAt 4 at (now (m .entry)) ⌝ }
 {
     let b = at + 1;
     let c = b + 1;
@@ -44,7 +44,7 @@ pub fn read32(m: &[u8], at: usize) -> u32
 // The eight bytes from `at` on, as a number.
 pub fn read64(m: &[u8], at: usize) -> u64
     requires { ⌜ at + 8 ≤ length (now m) ⌝ }
-    ensures { λ r. ⌜ r ≡ get 8 at (now (m .entry)) ⌝ }
+    ensures { λ r. ⌜ r ≡ numberAt 8 at (now (m .entry)) ⌝ }
 {
     let b = at + 1;
     let c = b + 1;

@@ -21,7 +21,7 @@ use Rattle.bits.proofs.Laws.{packed-length, packed-bytes, unpacked-lt}
 use Rattle.filter.specs.Filters.{HasPeriod}
 use Rattle.table.specs.declared.Counts.{Counts}
 use Rattle.table.specs.declared.Object.{Object}
-use Rattle.table.specs.Records.{none, objectRecord}
+use Rattle.table.specs.Records.{absent, objectRecord}
 use Rattle.table.specs.Check.{depths}
 use Rattle.table.specs.Decode.{objectOf, Right}
 use Rattle.table.proofs.Accepted.{Usable, usable}
@@ -154,10 +154,10 @@ right-placed t c m right long i h =
     }
 
 module _ (o : Object) (v : ℕ) (m : List ℕ) (placed : Placed o m) where
-  pub pack-room : eqb (o .ipdu .0) none ≡ false → slotAt (o .ipdu .0) + 8 ≤ length m
+  pub pack-room : eqb (o .ipdu .0) absent ≡ false → slotAt (o .ipdu .0) + 8 ≤ length m
   pack-room some = omega (arith, placed .ipdu some, placed .long)
 
-  pub packed-slot-length : eqb (o .ipdu .0) none ≡ false
+  pub packed-slot-length : eqb (o .ipdu .0) absent ≡ false
       → length (packed (o .order) (startBit o) (o .size .0) v (part (slotAt (o .ipdu .0)) 8 m)) ≡ 8
   packed-slot-length some =
       packed-length (o .order) (startBit o) (o .size .0) v (part (slotAt (o .ipdu .0)) 8 m)
@@ -167,12 +167,12 @@ module _ (o : Object) (v : ℕ) (m : List ℕ) (placed : Placed o m) where
   unfolding pack
   pack-length =
       ⊎-elim
-      (λ (e : eqb (o .ipdu .0) none ≡ true). rw e)
-      (λ (e : eqb (o .ipdu .0) none ≡ false).
+      (λ (e : eqb (o .ipdu .0) absent ≡ true). rw e)
+      (λ (e : eqb (o .ipdu .0) absent ≡ false).
       rw e
       (replaced-length (slotAt (o .ipdu .0)) (packed (o .order) (startBit o) (o .size .0) v (part (slotAt (o .ipdu .0)) 8 m)) m
       (omega (arith, packed-slot-length e, pack-room e))))
-      (true-or-false (eqb (o .ipdu .0) none))
+      (true-or-false (eqb (o .ipdu .0) absent))
 
 -- ---- what a working memory in range gives
 
@@ -203,15 +203,15 @@ module _ (t : List ℕ) (c : Counts) (m : List ℕ) (ready : Ready t c m) (i : �
   unfolding pack
   ready-pack v =
       ⊎-elim
-      (λ (e : eqb (o .ipdu .0) none ≡ true). rw e ready)
-      (λ (e : eqb (o .ipdu .0) none ≡ false).
+      (λ (e : eqb (o .ipdu .0) absent ≡ true). rw e ready)
+      (λ (e : eqb (o .ipdu .0) absent ≡ false).
       let low = ready-placed .ipdu e in
       let size = packed-slot-length o v m ready-placed e in
       rw e
       (ready-bytes t c m ready (slotAt (o .ipdu .0)) (packed (o .order) (startBit o) (o .size .0) v (part (slotAt (o .ipdu .0)) 8 m))
       (packed-bytes (o .order) (startBit o) (o .size .0) v (part (slotAt (o .ipdu .0)) 8 m))
       (omega (arith, size, pack-room o v m ready-placed e)) (inl (omega arith, omega (arith, size, low)))))
-      (true-or-false (eqb (o .ipdu .0) none))
+      (true-or-false (eqb (o .ipdu .0) absent))
     where
       o : Object
       o = object t c i

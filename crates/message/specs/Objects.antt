@@ -7,7 +7,7 @@ use Prim.Native.Nat.{ℕ, _+_, _-_, _*_, _≤_, _<_}
 use lib.Bits.{bitOr}
 use lib.Dec.{ltb, eqb}
 use lib.ListN.{length}
-use Rattle.memory.specs.Bytes.{bytesOf, part, get, replaced}
+use Rattle.memory.specs.Bytes.{bytesOf, part, numberAt, replaced}
 use Rattle.memory.specs.Search.{pick}
 use Rattle.bits.specs.Bits.{packed, unpacked}
 use Rattle.bits.specs.Slots.{position, InSlot}
@@ -16,7 +16,7 @@ use Rattle.table.specs.declared.Counts.{Counts}
 use Rattle.table.specs.declared.Direction.{Direction}
 use Rattle.table.specs.declared.Direction.the-variants.{Send, Receive}
 use Rattle.table.specs.declared.Object.{Object}
-use Rattle.table.specs.Records.{none, objectRecord}
+use Rattle.table.specs.Records.{absent, objectRecord}
 use Rattle.table.specs.Decode.{objectOf}
 use Rattle.state.specs.declared.ObjectState.{ObjectState}
 use Rattle.state.specs.Layout.{memorySize, queues, slotAt, objectState, withObjectState}
@@ -39,7 +39,7 @@ pub record Held (depth i : ℕ) (m : List ℕ) : Type 0 where
 pub record Placed (o : Object) (m : List ℕ) : Type 0 where
   pub long : memorySize ≤ length m
   pub slot : InSlot (o .at) (o .size .0)
-  pub ipdu : eqb (o .ipdu .0) none ≡ false → o .ipdu .0 < 32
+  pub ipdu : eqb (o .ipdu .0) absent ≡ false → o .ipdu .0 < 32
 
 -- ---- marks: arrived 1, sent 2, receive error 4, send error 8, added
 
@@ -104,13 +104,13 @@ deliver o i v m = delivery (lets o v (objectState m i)) o i v (objectState m i) 
 -- ---- receive of a queued object: the oldest value, and the queue without it and with overflow cleared
 
 unfoldable pub oldest : ℕ → ℕ → List ℕ → ℕ
-oldest depth i m = get 4 (placeAt depth (objectState m i) 0) m
+oldest depth i m = numberAt 4 (placeAt depth (objectState m i) 0) m
 
-abbrev pub taken : ℕ → ObjectState → ObjectState
-taken depth s = withQueue 0 (around depth (s .head + 1)) (s .count - 1) s
+abbrev pub dequeued : ℕ → ObjectState → ObjectState
+dequeued depth s = withQueue 0 (around depth (s .head + 1)) (s .count - 1) s
 
-unfoldable pub take : ℕ → ℕ → List ℕ → List ℕ
-take depth i m = withObjectState m i (taken depth (objectState m i))
+unfoldable pub dequeue : ℕ → ℕ → List ℕ → List ℕ
+dequeue depth i m = withObjectState m i (dequeued depth (objectState m i))
 
 -- ---- the bits of an object in its I-PDU
 
@@ -121,7 +121,7 @@ startBit o = position (o .order) (o .at)
 -- a value packed into the I-PDU; with no I-PDU packing does nothing
 unfoldable pub pack : Object → ℕ → List ℕ → List ℕ
 pack o v m =
-    pick (eqb (o .ipdu .0) none) m
+    pick (eqb (o .ipdu .0) absent) m
     (replaced (slotAt (o .ipdu .0)) (packed (o .order) (startBit o) (o .size .0) v (part (slotAt (o .ipdu .0)) 8 m)) m)
 
 -- the value unpacked from the I-PDU

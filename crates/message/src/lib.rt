@@ -11,7 +11,7 @@ pub use objects::filter_sent;
 pub use objects::initialise;
 pub use objects::oldest;
 pub use objects::pack;
-pub use objects::take;
+pub use objects::dequeue;
 
 // The marks of an object, added.
 pub const ARRIVED: u32 = 1;

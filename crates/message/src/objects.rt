@@ -18,7 +18,7 @@ ghost use Rattle.filter.specs.Filters.{HasPeriod};
 ghost use Rattle.table.specs.declared.Direction.the-variants.{Send};
 ghost use Rattle.state.specs.Layout.{objectRow, objectState, withObjectState};
 ghost use Rattle.state.specs.Updates.{withOld, withValue, withQueue};
-ghost use Rattle.message.specs.Objects.{Held, Placed, lets, filtered, around, placeAt, enters, delivered, deliver, oldest, take, pack, unpack, initialiseAs, initialise};
+ghost use Rattle.message.specs.Objects.{Held, Placed, lets, filtered, around, placeAt, enters, delivered, deliver, oldest, dequeue, pack, unpack, initialiseAs, initialise};
 
 // Delivers a value to a receive object.
 pub fn deliver(m: &mut [u8], number: ObjectNumber, o: Object, v: u32)
@@ -62,10 +62,10 @@ pub fn oldest(m: &[u8], number: ObjectNumber, depth: u32) -> u32
 }
 
 // Removes the oldest value of a queue that has one, and clears overflow.
-pub fn take(m: &mut [u8], number: ObjectNumber, depth: u32)
+pub fn dequeue(m: &mut [u8], number: ObjectNumber, depth: u32)
     requires { ⌜ Held depth (number .0) (now m) ⌝ }
     requires { ⌜ 0 < objectState (now m) (number .0) .count ⌝ }
-    ensures { λ _. ⌜ now (m .exit) ≡ take depth (number .0) (now (m .entry)) ⌝ }
+    ensures { λ _. ⌜ now (m .exit) ≡ dequeue depth (number .0) (now (m .entry)) ⌝ }
 {
     let s = state::object_state(m, number);
     let mut next = s;

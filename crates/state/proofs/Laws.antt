@@ -8,9 +8,9 @@ use Prim.Native.Nat.{ℕ, _+_, _*_, _^_, _≤_, _<_}
 use native.Mathlib.Nat.{mod-eq-of-lt}
 use native.Mathlib.Omega.{arith}
 use lib.ListN.{length}
-use Rattle.memory.specs.Bytes.{Bytes, value, get, part}
+use Rattle.memory.specs.Bytes.{Bytes, value, numberAt, part}
 use Rattle.memory.specs.Rows.{Field, put, rising}
-use Rattle.memory.proofs.Laws.{get-lt}
+use Rattle.memory.proofs.Laws.{number-lt}
 use Rattle.memory.proofs.Rows.{put-length, put-apart, put-holds, put-bytes}
 use Rattle.memory.proofs.Tests.{lt-or-le}
 use Rattle.state.specs.declared.IpduState.{IpduState}
@@ -128,34 +128,34 @@ pub ipdu-fits : (m : List ℕ) (k : ℕ) → Bytes m → IpduFits (ipduState m k
 unfolding ipduState
 ipdu-fits m k bs =
     record {
-      requested = get-lt 1 (ipduRow k + 0) m bs;
-      wanted = get-lt 1 (ipduRow k + 1) m bs;
-      running = get-lt 1 (ipduRow k + 2) m bs;
-      delay = get-lt 2 (ipduRow k + 4) m bs;
-      deadline = get-lt 2 (ipduRow k + 6) m bs;
-      countdown = get-lt 2 (ipduRow k + 8) m bs;
-      timer = get-lt 2 (ipduRow k + 10) m bs;
+      requested = number-lt 1 (ipduRow k + 0) m bs;
+      wanted = number-lt 1 (ipduRow k + 1) m bs;
+      running = number-lt 1 (ipduRow k + 2) m bs;
+      delay = number-lt 2 (ipduRow k + 4) m bs;
+      deadline = number-lt 2 (ipduRow k + 6) m bs;
+      countdown = number-lt 2 (ipduRow k + 8) m bs;
+      timer = number-lt 2 (ipduRow k + 10) m bs;
     }
 
 pub object-fits : (m : List ℕ) (i : ℕ) → Bytes m → ObjectFits (objectState m i)
 unfolding objectState
 object-fits m i bs =
     record {
-      value = get-lt 4 (objectRow i + 0) m bs;
-      old = get-lt 4 (objectRow i + 4) m bs;
-      occurrence = get-lt 1 (objectRow i + 8) m bs;
-      marks = get-lt 1 (objectRow i + 9) m bs;
-      overflow = get-lt 1 (objectRow i + 10) m bs;
-      head = get-lt 1 (objectRow i + 11) m bs;
-      count = get-lt 1 (objectRow i + 12) m bs;
-      queue = get-lt 2 (objectRow i + 14) m bs;
+      value = number-lt 4 (objectRow i + 0) m bs;
+      old = number-lt 4 (objectRow i + 4) m bs;
+      occurrence = number-lt 1 (objectRow i + 8) m bs;
+      marks = number-lt 1 (objectRow i + 9) m bs;
+      overflow = number-lt 1 (objectRow i + 10) m bs;
+      head = number-lt 1 (objectRow i + 11) m bs;
+      count = number-lt 1 (objectRow i + 12) m bs;
+      queue = number-lt 2 (objectRow i + 14) m bs;
     }
 
 -- ---- a row is read from its own 16 bytes alone
 
 pub ipdu-read : (m n : List ℕ) (j : ℕ) → ((o w : ℕ) → o + w ≤ 16 → part (ipduRow j + o) w m ≡ part (ipduRow j + o) w n)
     → ipduState m j ≡ ipduState n j
-unfolding ipduState get
+unfolding ipduState numberAt
 ipdu-read m n j e =
     rw (
       e 0 1 (omega arith),
@@ -169,7 +169,7 @@ ipdu-read m n j e =
 
 pub object-read : (m n : List ℕ) (j : ℕ) → ((o w : ℕ) → o + w ≤ 16 → part (objectRow j + o) w m ≡ part (objectRow j + o) w n)
     → objectState m j ≡ objectState n j
-unfolding objectState get
+unfolding objectState numberAt
 object-read m n j e =
     rw (
       e 0 4 (omega arith),

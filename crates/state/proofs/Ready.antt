@@ -9,8 +9,8 @@ use native.Mathlib.Omega.{arith}
 use borrow.Author.Tests.{leb-true, le-leb, eqb-true, eq-eqb, not-true, not-false}
 use lib.Dec.{leb, eqb}
 use lib.ListN.{length}
-use Rattle.memory.specs.Bytes.{Bytes, value, part, get, replaced}
-use Rattle.memory.proofs.Laws.{get-lt, part-apart, replaced-length, replaced-bytes}
+use Rattle.memory.specs.Bytes.{Bytes, value, part, numberAt, replaced}
+use Rattle.memory.proofs.Laws.{number-lt, part-apart, replaced-length, replaced-bytes}
 use Rattle.memory.proofs.Search.{any-none, any-false}
 use Rattle.memory.proofs.Tests.{and-split, eq-or-ne}
 use Rattle.table.specs.declared.Counts.{Counts}
@@ -22,7 +22,7 @@ use Rattle.table.specs.Decode.{ipduOf, Right}
 use Rattle.table.proofs.Accepted.{Usable, usable}
 use Rattle.state.specs.declared.IpduState.{IpduState}
 use Rattle.state.specs.declared.ObjectState.{ObjectState}
-use Rattle.state.specs.Layout.{memorySize, stoppedAt, ipduRow, ipduState, withIpduState, objectRow, objectState, withObjectState}
+use Rattle.state.specs.Layout.{memorySize, runningAt, ipduRow, ipduState, withIpduState, objectRow, objectState, withObjectState}
 use Rattle.state.specs.Ranges.{inRangeAs, ipduInRange, objectInRange, ipduOut, objectOut, inRange, Ready}
 use Rattle.state.proofs.Laws.{IpduFits, ObjectFits, ipdu-length, ipdu-part, ipdu-stored, ipdu-bytes, ipdu-fits, ipdu-read, ipdu-other, ipdu-keeps-objects, object-length, object-part, object-stored, object-bytes, object-fits, object-read, object-other, object-keeps-ipdus}
 use Rattle.state.proofs.Turns.{depth-sum}
@@ -108,14 +108,14 @@ module _ (t : List ℕ) (c : Counts) (m : List ℕ) (ready : Ready t c m) where
   -- an object's row set to numbers in range
   pub ready-object : (i : ℕ) → i < c .objects → (s : ObjectState) → ObjectKept (objectRecord t (c .ipdus) i .depth) (depths t c i) s
       → Ready t c (withObjectState m i s)
-  unfolding stoppedAt get
+  unfolding runningAt numberAt
   ready-object i h s kept =
       record {
         right = ready .right;
         tables = ready .tables;
         long = omega (arith, object-length m i s room, ready .long);
         bytes = object-bytes m i s (ready .bytes);
-        stopped = rw (object-part m i s room 0 1 (inl (omega arith))) (ready .stopped);
+        running = rw (object-part m i s room 0 1 (inl (omega arith))) (ready .running);
         ipdus = λ k b. rw (object-keeps-ipdus m i s room k (omega (arith, b, ready .right .shape .ipdus))) (ready .ipdus k b);
         objects = objects;
       }
@@ -137,14 +137,14 @@ module _ (t : List ℕ) (c : Counts) (m : List ℕ) (ready : Ready t c m) where
   -- an I-PDU's row set to numbers in range
   pub ready-ipdu : (k : ℕ) → k < c .ipdus → (s : IpduState) → IpduFits s → ipduInRange (ipduOf (ipduRecord t k)) s ≡ true
       → Ready t c (withIpduState m k s)
-  unfolding stoppedAt get
+  unfolding runningAt numberAt
   ready-ipdu k h s fits kept =
       record {
         right = ready .right;
         tables = ready .tables;
         long = omega (arith, ipdu-length m k s room, ready .long);
         bytes = ipdu-bytes m k s (ready .bytes);
-        stopped = rw (ipdu-part m k s room 0 1 (inl (omega arith))) (ready .stopped);
+        running = rw (ipdu-part m k s room 0 1 (inl (omega arith))) (ready .running);
         ipdus = ipdus;
         objects = λ i b. rw (ipdu-keeps-objects m k s room (omega (arith, h, ready .right .shape .ipdus)) i) (ready .objects i b);
       }
@@ -162,14 +162,14 @@ module _ (t : List ℕ) (c : Counts) (m : List ℕ) (ready : Ready t c m) where
   -- other bytes: the slots, or the queues and all behind them
   pub ready-bytes : (at : ℕ) (f : List ℕ) → Bytes f → at + length f ≤ length m → ((528 ≤ at) × (at + length f ≤ 784)) ⊎ (2832 ≤ at)
       → Ready t c (replaced at f m)
-  unfolding stoppedAt get
+  unfolding runningAt numberAt
   ready-bytes at f bs room side =
       record {
         right = ready .right;
         tables = ready .tables;
         long = omega (arith, replaced-length at f m room, ready .long);
         bytes = replaced-bytes at f m bs (ready .bytes);
-        stopped = rw (same 0 1 (inl (omega arith))) (ready .stopped);
+        running = rw (same 0 1 (inl (omega arith))) (ready .running);
         ipdus = λ k b.
             rw (ipdu-read (replaced at f m) m k (λ o w h. same (ipduRow k + o) w (inl (omega (arith, b, ready .right .shape .ipdus)))))
             (ready .ipdus k b);
@@ -194,14 +194,14 @@ pub in-range-ready : (t : List ℕ) (c : Counts) (m : List ℕ) → Right t c �
     → inRange t c m ≡ true → Ready t c m
 unfolding inRange
 in-range-ready t c m right bt long bm e =
-    let last = and-split (leb (stoppedAt m) 1 && not (Rattle.memory.specs.Search.any (c .ipdus) (ipduOut t m))) (not (Rattle.memory.specs.Search.any (c .objects) (objectOut t c m))) e in
-    let front = and-split (leb (stoppedAt m) 1) (not (Rattle.memory.specs.Search.any (c .ipdus) (ipduOut t m))) (last .0) in
+    let last = and-split (leb (runningAt m) 1 && not (Rattle.memory.specs.Search.anyBelow (c .ipdus) (ipduOut t m))) (not (Rattle.memory.specs.Search.anyBelow (c .objects) (objectOut t c m))) e in
+    let front = and-split (leb (runningAt m) 1) (not (Rattle.memory.specs.Search.anyBelow (c .ipdus) (ipduOut t m))) (last .0) in
     record {
       right = right;
       tables = bt;
       long = long;
       bytes = bm;
-      stopped = front .0;
+      running = front .0;
       ipdus = λ k h. not-false _ (any-false (c .ipdus) (ipduOut t m) (not-true _ (front .1)) k h);
       objects = λ i h. not-false _ (any-false (c .objects) (objectOut t c m) (not-true _ (last .1)) i h);
     }
@@ -210,7 +210,7 @@ pub ready-in-range : (t : List ℕ) (c : Counts) (m : List ℕ) → Ready t c m 
 unfolding inRange
 ready-in-range t c m r =
     rw (
-      r .stopped,
+      r .running,
       any-none (c .ipdus) (ipduOut t m) (λ k h. ap not (r .ipdus k h)),
       any-none (c .objects) (objectOut t c m) (λ i h. ap not (r .objects i h)),
     )

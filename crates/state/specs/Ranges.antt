@@ -7,7 +7,7 @@ use Prim.Native.Nat.{ℕ, _-_, _≤_, _<_, max}
 use lib.ListN.{length}
 use Rattle.memory.specs.Bytes.{Bytes}
 use lib.Dec.{leb, eqb}
-use Rattle.memory.specs.Search.{any}
+use Rattle.memory.specs.Search.{anyBelow}
 use Rattle.table.specs.declared.Counts.{Counts}
 use Rattle.table.specs.declared.Direction.{Direction}
 use Rattle.table.specs.declared.Direction.the-variants.{Send, Receive}
@@ -17,7 +17,7 @@ use Rattle.table.specs.Check.{depths}
 use Rattle.table.specs.Decode.{ipduOf, Right}
 use Rattle.state.specs.declared.IpduState.{IpduState}
 use Rattle.state.specs.declared.ObjectState.{ObjectState}
-use Rattle.state.specs.Layout.{memorySize, stoppedAt, ipduState, objectState}
+use Rattle.state.specs.Layout.{memorySize, runningAt, ipduState, objectState}
 
 -- flags are 0 or 1, and the period runs only where there is one; delay at most M, deadline at most D, countdown at most the larger of period and offset; a receive
 -- I-PDU has a timer alone, at most the larger of F and R
@@ -61,7 +61,7 @@ objectOut t c m i = not (objectInRange (objectRecord t (c .ipdus) i .depth) (dep
 
 -- every stored number is in its range
 unfoldable pub inRange : List ℕ → Counts → List ℕ → Bool
-inRange t c m = leb (stoppedAt m) 1 && not (any (c .ipdus) (ipduOut t m)) && not (any (c .objects) (objectOut t c m))
+inRange t c m = leb (runningAt m) 1 && not (anyBelow (c .ipdus) (ipduOut t m)) && not (anyBelow (c .objects) (objectOut t c m))
 
 -- what a call works on: a table that was accepted, and 8,192 bytes of working memory that were found in range
 pub record Ready (t : List ℕ) (c : Counts) (m : List ℕ) : Type 0 where
@@ -69,7 +69,7 @@ pub record Ready (t : List ℕ) (c : Counts) (m : List ℕ) : Type 0 where
   pub tables : Bytes t
   pub long : length m ≡ memorySize
   pub bytes : Bytes m
-  pub stopped : leb (stoppedAt m) 1 ≡ true
+  pub running : leb (runningAt m) 1 ≡ true
   pub ipdus : (k : ℕ) → k < c .ipdus → ipduInRange (ipduOf (ipduRecord t k)) (ipduState m k) ≡ true
   pub objects : (i : ℕ) → i < c .objects
       → objectInRange (objectRecord t (c .ipdus) i .depth) (depths t c i) (objectState m i) ≡ true

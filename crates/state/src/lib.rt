@@ -9,8 +9,13 @@ pub use rows::object_state;
 pub use rows::set_ipdu_state;
 pub use rows::set_object_state;
 
-// The bytes of working memory that are used, and where its parts begin.
+// The bytes of working memory and of a request area that are used.
 pub const MEMORY_SIZE: usize = 8192;
+
+pub const AREA_SIZE: usize = 256;
+
+// The parts of working memory: the byte that says whether the layer runs, and where the others begin.
+pub const RUNNING: usize = 0;
 
 pub const IPDU_ROWS: usize = 16;
 

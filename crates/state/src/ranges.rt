@@ -1,6 +1,7 @@
 // Whether every stored number is in its range, for a table that was accepted.
 use super::IpduState;
 use super::ObjectState;
+use super::RUNNING;
 use table::Counts;
 use table::Direction;
 use table::Ipdu;
@@ -10,7 +11,7 @@ ghost use mathlib.Core.Bool.{not};
 ghost use mathlib.Core.Path.{_≡_};
 ghost use Prim.Native.Nat.{_-_, _≤_, max};
 ghost use lib.ListN.{length};
-ghost use Rattle.memory.specs.Search.{any};
+ghost use Rattle.memory.specs.Search.{anyBelow};
 ghost use Rattle.table.specs.declared.Direction.the-variants.{Send, Receive};
 ghost use Rattle.table.specs.Check.{Shape};
 ghost use Rattle.table.specs.Decode.{Right};
@@ -23,16 +24,16 @@ pub fn in_range(t: &[u8], c: Counts, m: &[u8]) -> bool
     requires { ⌜ memorySize ≤ length (now m) ⌝ }
     ensures { λ r. ⌜ r ≡ inRange (now (t .entry)) c (now (m .entry)) ⌝ }
 {
-    let stopped = memory::read8(m, 0) <= 1;
+    let running = memory::read8(m, RUNNING) <= 1;
     let ipdus = ipdus_in_range(t, c, m);
     let objects = objects_in_range(t, c, m);
-    stopped & ipdus & objects
+    running & ipdus & objects
 }
 
 fn ipdus_in_range(t: &[u8], c: Counts, m: &[u8]) -> bool
     requires { ⌜ Shape (now t) c ⌝ }
     requires { ⌜ memorySize ≤ length (now m) ⌝ }
-    ensures { λ r. ⌜ r ≡ not (any (c .ipdus) (ipduOut (now (t .entry)) (now (m .entry)))) ⌝ }
+    ensures { λ r. ⌜ r ≡ not (anyBelow (c .ipdus) (ipduOut (now (t .entry)) (now (m .entry)))) ⌝ }
 {
     let n = c.ipdus;
     let mut k = 0;
@@ -51,7 +52,7 @@ fn ipdus_in_range(t: &[u8], c: Counts, m: &[u8]) -> bool
 fn objects_in_range(t: &[u8], c: Counts, m: &[u8]) -> bool
     requires { ⌜ Right (now t) c ⌝ }
     requires { ⌜ memorySize ≤ length (now m) ⌝ }
-    ensures { λ r. ⌜ r ≡ not (any (c .objects) (objectOut (now (t .entry)) c (now (m .entry)))) ⌝ }
+    ensures { λ r. ⌜ r ≡ not (anyBelow (c .objects) (objectOut (now (t .entry)) c (now (m .entry)))) ⌝ }
 {
     let n = c.ipdus;
     let end = c.objects;

@@ -19,7 +19,7 @@ use Rattle.table.specs.declared.Counts.{Counts}
 use Rattle.table.specs.declared.IpduRecord.{IpduRecord}
 use Rattle.table.specs.declared.ObjectRecord.{ObjectRecord}
 use Rattle.table.specs.declared.References.{References}
-use Rattle.table.specs.Records.{total, counts, ipduRecord, objectRecord}
+use Rattle.table.specs.Records.{tableLength, counts, ipduRecord, objectRecord}
 use Rattle.table.specs.Rules.{ipduRight, sendIpdu, receiveIpdu, ipduBytes, orderOf, references, sendObject, receiveObject, withoutIpdu, withinIpdu, senderRight, bytesRight, objectRight}
 use Rattle.table.specs.Check.{Shape, isSent, wrongIpdu, wrongAlone}
 use Rattle.table.specs.Masks.{RightAlone, Placed}

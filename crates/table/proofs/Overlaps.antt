@@ -13,7 +13,7 @@ use lib.Dec.{eqb}
 use lib.ListN.{length, getD, set, replicate, length-set, getD-replicate, List·getD-eq-default}
 use lib.Pow.{pow-pos}
 use lib.Seq.{getD-set-same, getD-set-other}
-use Rattle.memory.specs.Search.{pick, any}
+use Rattle.memory.specs.Search.{pick, anyBelow}
 use Rattle.memory.proofs.Tests.{true-or-false, true-not-false, eq-or-ne, lt-or-le, and-split}
 use Rattle.memory.proofs.Search.{any-none, any-some, any-false, any-true}
 use Rattle.bits.proofs.Numbers.{bit-of-zero}
@@ -40,7 +40,7 @@ mask-small r p = mask-lt (orderOf (r .order)) _ (r .size) (p .slot .inside)
 
 -- two masks meet where the objects share a bit
 pub masks-share : (r s : ObjectRecord) → Placed r → Placed s
-    → eqb (bitAnd (maskOf r) (maskOf s)) 0 ≡ not (any 64 (λ p. ownsBit r p && ownsBit s p))
+    → eqb (bitAnd (maskOf r) (maskOf s)) 0 ≡ not (anyBelow 64 (λ p. ownsBit r p && ownsBit s p))
 masks-share r s p q =
     words-share (maskOf r) (maskOf s) (ownsBit r) (ownsBit s) (mask-small r p) (mask-describes r p) (mask-describes s q)
 
@@ -79,7 +79,7 @@ zeros k =
 record Words (t : List ℕ) (ipdus i : ℕ) : Type 0 where
   long : length (usedAfter t ipdus i) ≡ 32
   small : (k : ℕ) → getD (usedAfter t ipdus i) k 0 < 2 ^ 64
-  bits : (k : ℕ) → k < 32 → Describes (getD (usedAfter t ipdus i) k 0) (λ p. any i (owner t ipdus k p))
+  bits : (k : ℕ) → k < 32 → Describes (getD (usedAfter t ipdus i) k 0) (λ p. anyBelow i (owner t ipdus k p))
 
 module _ (t : List ℕ) (ipdus end : ℕ) (placed : (i : ℕ) → i < end → isSent (objectRecord t ipdus i) ≡ true → Placed (objectRecord t ipdus i)) where
   -- one more object: it is not sent, or its mask joins its I-PDU's word
@@ -101,7 +101,7 @@ module _ (t : List ℕ) (ipdus end : ℕ) (placed : (i : ℕ) → i < end → is
           record {
             long = rw e (w .long);
             small = λ k. rw e (w .small k);
-            bits = λ k inside p low. rw e (w .bits k inside p low ∙ ap (λ (b : Bool). pick b 1 0) (sym (or-false (any i (owner t ipdus k p)))));
+            bits = λ k inside p low. rw e (w .bits k inside p low ∙ ap (λ (b : Bool). pick b 1 0) (sym (or-false (anyBelow i (owner t ipdus k p)))));
           }
 
       small-after : Placed r → (k : ℕ) → getD (set used (r .ipdu) joined) k 0 < 2 ^ 64
@@ -114,14 +114,14 @@ module _ (t : List ℕ) (ipdus end : ℕ) (placed : (i : ℕ) → i < end → is
           (eq-or-ne k (r .ipdu))
 
       bits-after : Placed r → (k : ℕ) → k < 32
-          → Describes (getD (set used (r .ipdu) joined) k 0) (λ p. any i (owner t ipdus k p) || eqb (r .ipdu) k && ownsBit r p)
+          → Describes (getD (set used (r .ipdu) joined) k 0) (λ p. anyBelow i (owner t ipdus k p) || eqb (r .ipdu) k && ownsBit r p)
       bits-after pl k inside p low =
           ⊎-elim
           (λ (e : r .ipdu ≡ k).
           rw (← e, eq-eqb (r .ipdu) (r .ipdu) refl, getD-set-same used (r .ipdu) joined 0 (omega (arith, w .long, pl .ipdu)))
-          (words-join (getD used (r .ipdu) 0) (maskOf r) (λ q. any i (owner t ipdus (r .ipdu) q)) (ownsBit r) (w .bits (r .ipdu) (pl .ipdu)) (mask-describes r pl) p low))
+          (words-join (getD used (r .ipdu) 0) (maskOf r) (λ q. anyBelow i (owner t ipdus (r .ipdu) q)) (ownsBit r) (w .bits (r .ipdu) (pl .ipdu)) (mask-describes r pl) p low))
           (λ (ne : r .ipdu ≡ k → ⊥).
-          rw (ne-eqb (r .ipdu) k ne, or-false (any i (owner t ipdus k p)), getD-set-other used (r .ipdu) k joined 0 (λ e. ne (sym e)))
+          rw (ne-eqb (r .ipdu) k ne, or-false (anyBelow i (owner t ipdus k p)), getD-set-other used (r .ipdu) k joined 0 (λ e. ne (sym e)))
           (w .bits k inside p low))
           (eq-or-ne (r .ipdu) k)
 
@@ -157,22 +157,22 @@ module _ (t : List ℕ) (ipdus end : ℕ) (placed : (i : ℕ) → i < end → is
       apart : (j : ℕ) → j < i → shareBit (objectRecord t ipdus j) r ≡ true → ⊥
       apart j below e =
           let s : ObjectRecord = objectRecord t ipdus j in
-          let last = and-split (isSent s && isSent r && eqb (s .ipdu) (r .ipdu)) (any 64 (λ p. ownsBit s p && ownsBit r p)) e in
+          let last = and-split (isSent s && isSent r && eqb (s .ipdu) (r .ipdu)) (anyBelow 64 (λ p. ownsBit s p && ownsBit r p)) e in
           let same = and-split (isSent s && isSent r) (eqb (s .ipdu) (r .ipdu)) (last .0) in
           let sents = and-split (isSent s) (isSent r) (same .0) in
           let pl : Placed r = placed i h (sents .1) in
           let none : eqb (bitAnd (getD (usedAfter t ipdus i) (r .ipdu) 0) (maskOf r)) 0 ≡ true = rw (sents .1) at free in
-          let clean : any 64 (λ p. any i (owner t ipdus (r .ipdu) p) && ownsBit r p) ≡ false =
+          let clean : anyBelow 64 (λ p. anyBelow i (owner t ipdus (r .ipdu) p) && ownsBit r p) ≡ false =
           not-true _
-          (sym (words-share (getD (usedAfter t ipdus i) (r .ipdu) 0) (maskOf r) (λ q. any i (owner t ipdus (r .ipdu) q)) (ownsBit r) (w .small (r .ipdu)) (w .bits (r .ipdu) (pl .ipdu)) (mask-describes r pl)) ∙ none) in
+          (sym (words-share (getD (usedAfter t ipdus i) (r .ipdu) 0) (maskOf r) (λ q. anyBelow i (owner t ipdus (r .ipdu) q)) (ownsBit r) (w .small (r .ipdu)) (w .bits (r .ipdu) (pl .ipdu)) (mask-describes r pl)) ∙ none) in
           true-not-false (last .1)
           (any-none 64 (λ p. ownsBit s p && ownsBit r p)
           (λ p low.
           split (ownsBit s p) (ownsBit r p)
           (λ own.
-          let claims : any i (owner t ipdus (r .ipdu) p) ≡ true =
+          let claims : anyBelow i (owner t ipdus (r .ipdu) p) ≡ true =
           any-some i (owner t ipdus (r .ipdu) p) j below (rw (sents .0, same .1, own)) in
-          rw claims at (any-false 64 (λ q. any i (owner t ipdus (r .ipdu) q) && ownsBit r q) clean p low))))
+          rw claims at (any-false 64 (λ q. anyBelow i (owner t ipdus (r .ipdu) q) && ownsBit r q) clean p low))))
 
   -- an object whose bits were not free shares one with a lower one
   pub taken-lower : (i : ℕ) → i < end → clear (usedAfter t ipdus i) (objectRecord t ipdus i) ≡ false → overlapsLower t ipdus i ≡ true
@@ -189,31 +189,31 @@ module _ (t : List ℕ) (ipdus end : ℕ) (placed : (i : ℕ) → i < end → is
       idle e = let z : true ≡ false = rw e at taken in true-not-false {b = true} refl z
 
       owner-shares : (p j : ℕ) → p < 64 → j < i → isSent r ≡ true → ownsBit r p ≡ true → owner t ipdus (r .ipdu) p j ≡ true
-          → any i (λ k. shareBit (objectRecord t ipdus k) r) ≡ true
+          → anyBelow i (λ k. shareBit (objectRecord t ipdus k) r) ≡ true
       owner-shares p j low below sent own e =
           let s : ObjectRecord = objectRecord t ipdus j in
           let last = and-split (isSent s && eqb (s .ipdu) (r .ipdu)) (ownsBit s p) e in
           let first = and-split (isSent s) (eqb (s .ipdu) (r .ipdu)) (last .0) in
-          let bit : any 64 (λ q. ownsBit s q && ownsBit r q) ≡ true =
+          let bit : anyBelow 64 (λ q. ownsBit s q && ownsBit r q) ≡ true =
           any-some 64 (λ q. ownsBit s q && ownsBit r q) p low (rw (last .1, own)) in
           any-some i (λ k. shareBit (objectRecord t ipdus k) r) j below (rw (first .0, sent, first .1, bit))
 
-      bit-shares : (p : ℕ) → p < 64 → isSent r ≡ true → (any i (owner t ipdus (r .ipdu) p) && ownsBit r p) ≡ true
-          → any i (λ k. shareBit (objectRecord t ipdus k) r) ≡ true
+      bit-shares : (p : ℕ) → p < 64 → isSent r ≡ true → (anyBelow i (owner t ipdus (r .ipdu) p) && ownsBit r p) ≡ true
+          → anyBelow i (λ k. shareBit (objectRecord t ipdus k) r) ≡ true
       bit-shares p low sent e =
-          let both = and-split (any i (owner t ipdus (r .ipdu) p)) (ownsBit r p) e in
+          let both = and-split (anyBelow i (owner t ipdus (r .ipdu) p)) (ownsBit r p) e in
           let j = any-true i (owner t ipdus (r .ipdu) p) (both .0) in
           owner-shares p (j .0) low (j .1) sent (both .1) (j .2)
 
-      meets : isSent r ≡ true → any i (λ k. shareBit (objectRecord t ipdus k) r) ≡ true
+      meets : isSent r ≡ true → anyBelow i (λ k. shareBit (objectRecord t ipdus k) r) ≡ true
       meets sent =
           let pl : Placed r = placed i h sent in
           let some : eqb (bitAnd (getD (usedAfter t ipdus i) (r .ipdu) 0) (maskOf r)) 0 ≡ false = rw sent at taken in
-          let met : any 64 (λ p. any i (owner t ipdus (r .ipdu) p) && ownsBit r p) ≡ true =
+          let met : anyBelow 64 (λ p. anyBelow i (owner t ipdus (r .ipdu) p) && ownsBit r p) ≡ true =
           not-false _
           (sym
-          (words-share (getD (usedAfter t ipdus i) (r .ipdu) 0) (maskOf r) (λ q. any i (owner t ipdus (r .ipdu) q)) (ownsBit r)
+          (words-share (getD (usedAfter t ipdus i) (r .ipdu) 0) (maskOf r) (λ q. anyBelow i (owner t ipdus (r .ipdu) q)) (ownsBit r)
           (w .small (r .ipdu)) (w .bits (r .ipdu) (pl .ipdu)) (mask-describes r pl))
           ∙ some) in
-          let p = any-true 64 (λ p. any i (owner t ipdus (r .ipdu) p) && ownsBit r p) met in
+          let p = any-true 64 (λ p. anyBelow i (owner t ipdus (r .ipdu) p) && ownsBit r p) met in
           bit-shares (p .0) (p .1) sent (p .2)

@@ -9,13 +9,13 @@ use native.Mathlib.Omega.{arith}
 use borrow.Author.Tests.{leb-true, eqb-true, lt-ltb, le-ltb, ltb-true}
 use lib.Dec.{leb, ltb, eqb}
 use lib.ListN.{length}
-use Rattle.memory.specs.Bytes.{get}
+use Rattle.memory.specs.Bytes.{numberAt}
 use Rattle.memory.specs.Search.{least}
 use Rattle.memory.proofs.Search.{least-before}
 use Rattle.memory.proofs.Tests.{and-split, true-or-false}
 use Rattle.table.specs.declared.Counts.{Counts}
 use Rattle.table.specs.declared.Verdict.the-variants.{Accepted, WrongIpdu, WrongObject}
-use Rattle.table.specs.Records.{ipduBase, objectBase, total, counts}
+use Rattle.table.specs.Records.{ipduBase, objectBase, tableLength, counts}
 use Rattle.table.specs.Rules.{offsetsRight, headerRight}
 use Rattle.table.specs.Check.{Shape, wrongIpdu, wrongObject, checkObjects, checkIpdus, checkRecords, check, placeOf}
 
@@ -29,12 +29,12 @@ header-shape t e =
     let c = counts t in
     let b1 : Bool = leb (c .ipdus) 32 in
     let b2 : Bool = leb (c .objects) 128 in
-    let b3 : Bool = eqb (get 2 4 t) ipduBase in
-    let b4 : Bool = eqb (get 2 6 t) (objectBase (c .ipdus)) in
-    let b5 : Bool = eqb (get 2 8 t) (total (c .ipdus) (c .objects)) in
-    let b6 : Bool = eqb (get 2 10 t) 0 in
-    let b7 : Bool = eqb (get 4 12 t) 0 in
-    let b8 : Bool = eqb (length t) (total (c .ipdus) (c .objects)) in
+    let b3 : Bool = eqb (numberAt 2 4 t) ipduBase in
+    let b4 : Bool = eqb (numberAt 2 6 t) (objectBase (c .ipdus)) in
+    let b5 : Bool = eqb (numberAt 2 8 t) (tableLength (c .ipdus) (c .objects)) in
+    let b6 : Bool = eqb (numberAt 2 10 t) 0 in
+    let b7 : Bool = eqb (numberAt 4 12 t) 0 in
+    let b8 : Bool = eqb (length t) (tableLength (c .ipdus) (c .objects)) in
     let a8 = and-split (b1 && b2 && b3 && b4 && b5 && b6 && b7) b8 (and-split (leb 16 (length t)) _ e .1) in
     let a7 = and-split (b1 && b2 && b3 && b4 && b5 && b6) b7 (a8 .0) in
     let a6 = and-split (b1 && b2 && b3 && b4 && b5) b6 (a7 .0) in

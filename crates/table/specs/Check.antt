@@ -6,21 +6,21 @@ use mathlib.Core.Path.{_≡_}
 use Prim.Native.Nat.{ℕ, suc, _+_, _≤_}
 use lib.Dec.{leb, ltb, eqb}
 use lib.ListN.{length}
-use Rattle.memory.specs.Search.{pick, any, least, sum}
+use Rattle.memory.specs.Search.{pick, anyBelow, least, sumBelow}
 use Rattle.bits.specs.Bits.{owns}
 use Rattle.table.specs.declared.Counts.{Counts}
 use Rattle.table.specs.declared.IpduRecord.{IpduRecord}
 use Rattle.table.specs.declared.ObjectRecord.{ObjectRecord}
 use Rattle.table.specs.declared.Verdict.{Verdict}
 use Rattle.table.specs.declared.Verdict.the-variants.{Accepted, WrongHeader, WrongIpdu, WrongObject}
-use Rattle.table.specs.Records.{mostIpdus, mostObjects, mostQueued, none, total, counts, ipduRecord, objectRecord}
+use Rattle.table.specs.Records.{mostIpdus, mostObjects, mostQueued, absent, tableLength, counts, ipduRecord, objectRecord}
 use Rattle.table.specs.Rules.{headerRight, ipduRight, references, orderOf, objectRight}
 
 -- a table whose header is right has this shape
 pub record Shape (t : List ℕ) (c : Counts) : Type 0 where
   pub ipdus : c .ipdus ≤ mostIpdus
   pub objects : c .objects ≤ mostObjects
-  pub long : length t ≡ total (c .ipdus) (c .objects)
+  pub long : length t ≡ tableLength (c .ipdus) (c .objects)
 
 -- ---- what is wrong
 
@@ -38,19 +38,19 @@ ownsBit r p = owns (orderOf (r .order)) (r .start) (r .size) p
 
 -- a send object with an I-PDU
 abbrev pub isSent : ObjectRecord → Bool
-isSent r = eqb (r .kind) 1 && not (eqb (r .ipdu) none)
+isSent r = eqb (r .kind) 1 && not (eqb (r .ipdu) absent)
 
 -- two send objects share a bit of an I-PDU
 unfoldable pub shareBit : ObjectRecord → ObjectRecord → Bool
-shareBit r s = isSent r && isSent s && eqb (r .ipdu) (s .ipdu) && any 64 (λ p. ownsBit r p && ownsBit s p)
+shareBit r s = isSent r && isSent s && eqb (r .ipdu) (s .ipdu) && anyBelow 64 (λ p. ownsBit r p && ownsBit s p)
 
 -- an object overlaps a lower one, in a table of so many I-PDUs
 unfoldable pub overlapsLower : List ℕ → ℕ → ℕ → Bool
-overlapsLower t ipdus i = any i (λ j. shareBit (objectRecord t ipdus j) (objectRecord t ipdus i))
+overlapsLower t ipdus i = anyBelow i (λ j. shareBit (objectRecord t ipdus j) (objectRecord t ipdus i))
 
 -- the queue depths of the first k objects
 abbrev pub depths : List ℕ → Counts → ℕ → ℕ
-depths t c k = sum k (λ j. objectRecord t (c .ipdus) j .depth)
+depths t c k = sumBelow k (λ j. objectRecord t (c .ipdus) j .depth)
 
 -- an object carries the depth sum past its limit
 abbrev pub pastDepth : List ℕ → Counts → ℕ → Bool

@@ -2,7 +2,7 @@
 -- Assumes nothing.
 use mathlib.Core.List.{List}
 use Prim.Native.Nat.{ℕ, _+_, _*_}
-use Rattle.memory.specs.Bytes.{get}
+use Rattle.memory.specs.Bytes.{numberAt}
 use Rattle.table.specs.declared.Counts.{Counts}
 use Rattle.table.specs.declared.IpduRecord.{IpduRecord}
 use Rattle.table.specs.declared.ObjectRecord.{ObjectRecord}
@@ -18,8 +18,8 @@ abbrev pub mostQueued : ℕ
 mostQueued = 512
 
 -- the number of an I-PDU or a sending object that stands for none
-abbrev pub none : ℕ
-none = 255
+abbrev pub absent : ℕ
+absent = 255
 
 -- a header of counts and offsets comes first (16 bytes), then the I-PDU records (16), then the object records (32)
 abbrev pub ipduBase : ℕ
@@ -28,26 +28,26 @@ ipduBase = 16
 abbrev pub objectBase : ℕ → ℕ
 objectBase ipdus = ipduBase + 16 * ipdus
 
-abbrev pub total : ℕ → ℕ → ℕ
-total ipdus objects = objectBase ipdus + 32 * objects
+abbrev pub tableLength : ℕ → ℕ → ℕ
+tableLength ipdus objects = objectBase ipdus + 32 * objects
 
 unfoldable pub counts : List ℕ → Counts
-counts t = record { ipdus = get 2 0 t; objects = get 2 2 t }
+counts t = record { ipdus = numberAt 2 0 t; objects = numberAt 2 2 t }
 
 -- an I-PDU record, 16 bytes from a on
 abbrev pub ipduRecordAt : ℕ → List ℕ → IpduRecord
 ipduRecordAt a t =
     record {
-      direction = get 1 a t;
-      length = get 1 (a + 1) t;
-      mode = get 1 (a + 2) t;
-      «zero_3» = get 1 (a + 3) t;
-      period = get 2 (a + 4) t;
-      offset = get 2 (a + 6) t;
-      «minimum_delay» = get 2 (a + 8) t;
-      deadline = get 2 (a + 10) t;
-      «first_deadline» = get 2 (a + 12) t;
-      «zero_14» = get 2 (a + 14) t;
+      direction = numberAt 1 a t;
+      length = numberAt 1 (a + 1) t;
+      mode = numberAt 1 (a + 2) t;
+      «zero_3» = numberAt 1 (a + 3) t;
+      period = numberAt 2 (a + 4) t;
+      offset = numberAt 2 (a + 6) t;
+      «minimum_delay» = numberAt 2 (a + 8) t;
+      deadline = numberAt 2 (a + 10) t;
+      «first_deadline» = numberAt 2 (a + 12) t;
+      «zero_14» = numberAt 2 (a + 14) t;
     }
 
 unfoldable pub ipduRecord : List ℕ → ℕ → IpduRecord
@@ -57,21 +57,21 @@ ipduRecord t k = ipduRecordAt (ipduBase + 16 * k) t
 abbrev pub objectRecordAt : ℕ → List ℕ → ObjectRecord
 objectRecordAt a t =
     record {
-      kind = get 1 a t;
-      ipdu = get 1 (a + 1) t;
-      sender = get 1 (a + 2) t;
-      start = get 1 (a + 3) t;
-      size = get 1 (a + 4) t;
-      order = get 1 (a + 5) t;
-      transfer = get 1 (a + 6) t;
-      depth = get 1 (a + 7) t;
-      filter = get 1 (a + 8) t;
-      «zero_9» = get 1 (a + 9) t;
-      «zero_10» = get 2 (a + 10) t;
-      initial = get 4 (a + 12) t;
-      first = get 4 (a + 16) t;
-      second = get 4 (a + 20) t;
-      «zero_24» = get 8 (a + 24) t;
+      kind = numberAt 1 a t;
+      ipdu = numberAt 1 (a + 1) t;
+      sender = numberAt 1 (a + 2) t;
+      start = numberAt 1 (a + 3) t;
+      size = numberAt 1 (a + 4) t;
+      order = numberAt 1 (a + 5) t;
+      transfer = numberAt 1 (a + 6) t;
+      depth = numberAt 1 (a + 7) t;
+      filter = numberAt 1 (a + 8) t;
+      «zero_9» = numberAt 1 (a + 9) t;
+      «zero_10» = numberAt 2 (a + 10) t;
+      initial = numberAt 4 (a + 12) t;
+      first = numberAt 4 (a + 16) t;
+      second = numberAt 4 (a + 20) t;
+      «zero_24» = numberAt 8 (a + 24) t;
     }
 
 -- of a table with so many I-PDUs

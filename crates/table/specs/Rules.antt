@@ -5,7 +5,7 @@ use mathlib.Core.List.{List}
 use Prim.Native.Nat.{ℕ, _+_}
 use lib.Dec.{leb, ltb, eqb}
 use lib.ListN.{length}
-use Rattle.memory.specs.Bytes.{get}
+use Rattle.memory.specs.Bytes.{numberAt}
 use Rattle.memory.specs.Search.{pick}
 use Rattle.bits.specs.declared.Order.{Order}
 use Rattle.bits.specs.declared.Order.the-variants.{Little, Big}
@@ -15,7 +15,7 @@ use Rattle.table.specs.declared.Counts.{Counts}
 use Rattle.table.specs.declared.IpduRecord.{IpduRecord}
 use Rattle.table.specs.declared.ObjectRecord.{ObjectRecord}
 use Rattle.table.specs.declared.References.{References}
-use Rattle.table.specs.Records.{mostIpdus, mostObjects, none, ipduBase, objectBase, total, counts, ipduRecord, objectRecord}
+use Rattle.table.specs.Records.{mostIpdus, mostObjects, absent, ipduBase, objectBase, tableLength, counts, ipduRecord, objectRecord}
 
 -- ---- the header
 
@@ -24,12 +24,12 @@ unfoldable pub offsetsRight : List ℕ → Counts → Bool
 offsetsRight t c =
     leb (c .ipdus) mostIpdus
     && leb (c .objects) mostObjects
-    && eqb (get 2 4 t) ipduBase
-    && eqb (get 2 6 t) (objectBase (c .ipdus))
-    && eqb (get 2 8 t) (total (c .ipdus) (c .objects))
-    && eqb (get 2 10 t) 0
-    && eqb (get 4 12 t) 0
-    && eqb (length t) (total (c .ipdus) (c .objects))
+    && eqb (numberAt 2 4 t) ipduBase
+    && eqb (numberAt 2 6 t) (objectBase (c .ipdus))
+    && eqb (numberAt 2 8 t) (tableLength (c .ipdus) (c .objects))
+    && eqb (numberAt 2 10 t) 0
+    && eqb (numberAt 4 12 t) 0
+    && eqb (length t) (tableLength (c .ipdus) (c .objects))
 
 -- the slice length equals the total; a slice under 16 bytes is a wrong header
 unfoldable pub headerRight : List ℕ → Bool
@@ -77,15 +77,15 @@ references t c r =
 
 -- a send object has byte 2 = 255 and depth 0
 abbrev pub sendObject : ObjectRecord → Bool
-sendObject r = eqb (r .kind) 1 && eqb (r .sender) none && eqb (r .depth) 0
+sendObject r = eqb (r .kind) 1 && eqb (r .sender) absent && eqb (r .depth) 0
 
 -- a receive object has transfer 0 and at most one of I-PDU and sending object
 abbrev pub receiveObject : ObjectRecord → Bool
-receiveObject r = eqb (r .kind) 2 && eqb (r .transfer) 0 && (eqb (r .ipdu) none || eqb (r .sender) none)
+receiveObject r = eqb (r .kind) 2 && eqb (r .transfer) 0 && (eqb (r .ipdu) absent || eqb (r .sender) absent)
 
 -- with no I-PDU, start is 0, length 32 and order 0
 abbrev pub withoutIpdu : ObjectRecord → Bool
-withoutIpdu r = eqb (r .ipdu) none && eqb (r .start) 0 && eqb (r .size) 32 && eqb (r .order) 0
+withoutIpdu r = eqb (r .ipdu) absent && eqb (r .start) 0 && eqb (r .size) 32 && eqb (r .order) 0
 
 -- the I-PDU exists and has the object's direction; all bits lie inside it
 abbrev pub withinIpdu : ObjectRecord → References → Bool
@@ -93,7 +93,7 @@ withinIpdu r x = eqb (x .direction) (r .kind) && room (orderOf (r .order)) (r .s
 
 -- the sending object exists and has kind 1
 abbrev pub senderRight : ObjectRecord → References → Bool
-senderRight r x = eqb (r .sender) none || eqb (x .«sender_kind») 1
+senderRight r x = eqb (r .sender) absent || eqb (x .«sender_kind») 1
 
 -- each byte within its limits, and the rest zero
 abbrev pub bytesRight : ObjectRecord → Bool

@@ -10,8 +10,8 @@ use native.Mathlib.Omega.{arith}
 use borrow.Author.Tests.{eqb-true, eqb-false, eq-eqb, ne-eqb}
 use lib.Dec.{eqb}
 use lib.ListN.{length}
-use Rattle.memory.specs.Bytes.{value, part, get, replaced}
-use Rattle.memory.specs.Search.{pick, any}
+use Rattle.memory.specs.Bytes.{value, part, numberAt, replaced}
+use Rattle.memory.specs.Search.{pick, anyBelow}
 use Rattle.memory.proofs.Laws.{part-apart, part-length}
 use Rattle.memory.proofs.Search.{Found, found, nowhere, there, any-some, least-at}
 use Rattle.memory.proofs.Tests.{eq-or-ne, true-or-false, true-not-false, lt-or-le}
@@ -21,17 +21,18 @@ use Rattle.bits.proofs.Places.{room-slot}
 use Rattle.table.specs.declared.Counts.{Counts}
 use Rattle.table.specs.declared.Object.{Object}
 use Rattle.table.specs.declared.ObjectRecord.{ObjectRecord}
-use Rattle.table.specs.Records.{none, ipduRecord, objectRecord}
+use Rattle.table.specs.Records.{absent, ipduRecord, objectRecord}
 use Rattle.table.specs.Rules.{orderOf}
 use Rattle.table.specs.Decode.{objectOf, Right}
 use Rattle.table.proofs.Accepted.{Usable, usable}
 use Rattle.table.proofs.Facts.{IpduFacts, ipdu-facts}
 use Rattle.state.specs.declared.IpduState.{IpduState}
 use Rattle.state.specs.declared.ObjectState.{ObjectState}
-use Rattle.state.specs.Layout.{memorySize, stoppedAt, slotAt, ipduRow, withIpduState, objectRow, objectState, withObjectState}
+use Rattle.state.specs.Layout.{memorySize, runningAt, withRunning, slotAt, ipduRow, withIpduState, objectRow, objectState, withObjectState}
 use Rattle.state.specs.Ranges.{Ready}
 use Rattle.state.proofs.Laws.{ipdu-part, ipdu-keeps-objects, object-part, object-stored, object-other, object-read}
 use Rattle.state.proofs.Ready.{ObjectKept, kept-fits, object-row, ipdu-row}
+use Rattle.state.proofs.Running.{running-stored, running-part, running-row, ready-running}
 use Rattle.message.specs.Objects.{object, Placed, startBit, pack}
 use Rattle.message.proofs.Kept.{right-placed, pack-room, packed-slot-length}
 use Rattle.trace.specs.Book.{Entry, Book, enter, lastOf, messageBit, bookBit}
@@ -52,7 +53,7 @@ packed-bit r v f fits p low = cases (found (r .size) test)
 
     cases : Found (r .size) test
         → frameBit (packed (orderOf (r .order)) (r .start) (r .size) v f) p
-        ≡ pick (any (r .size) (λ n. eqb (place (orderOf (r .order)) (r .start) n) p)) (messageBit r v p) (frameBit f p)
+        ≡ pick (anyBelow (r .size) (λ n. eqb (place (orderOf (r .order)) (r .start) n) p)) (messageBit r v p) (frameBit f p)
     cases (there i h before e) =
         let at : place (orderOf (r .order)) (r .start) i ≡ p = eqb-true (place (orderOf (r .order)) (r .start) i) p e in
         rw (any-some (r .size) (λ n. eqb (place (orderOf (r .order)) (r .start) n) p) i h e, least-at (r .size) (λ n. eqb (place (orderOf (r .order)) (r .start) n) p) i h before e)
@@ -67,32 +68,32 @@ pack-other : (o : Object) (v : ℕ) (m : List ℕ) → Placed o m → (k : ℕ) 
 unfolding pack
 pack-other o v m placed k ne =
     ⊎-elim
-    (λ (e : eqb (o .ipdu .0) none ≡ true). rw e)
-    (λ (e : eqb (o .ipdu .0) none ≡ false).
+    (λ (e : eqb (o .ipdu .0) absent ≡ true). rw e)
+    (λ (e : eqb (o .ipdu .0) absent ≡ false).
     let size = packed-slot-length o v m placed e in
     rw e
     (part-apart (slotAt (o .ipdu .0)) (packed (o .order) (startBit o) (o .size .0) v (part (slotAt (o .ipdu .0)) 8 m)) m (slotAt k) 8
     (omega (arith, size, pack-room o v m placed e))
     (⊎-elim (λ (l : k < o .ipdu .0). inl (omega (arith, l))) (λ (g : o .ipdu .0 ≤ k). inr (omega (arith, g, ne, size))) (lt-or-le k (o .ipdu .0)))))
-    (true-or-false (eqb (o .ipdu .0) none))
+    (true-or-false (eqb (o .ipdu .0) absent))
 
 -- ---- what the book speaks of
 
 module _ (t : List ℕ) (c : Counts) where
   -- two memories that the book cannot tell apart
   pub record Same (m n : List ℕ) : Type 0 where
-    pub stopped : stoppedAt n ≡ stoppedAt m
+    pub running : runningAt n ≡ runningAt m
     pub old : (i : ℕ) → i < c .objects → objectRecord t (c .ipdus) i .kind ≡ 1 → objectState n i .old ≡ objectState m i .old
     pub count : (i : ℕ) → i < c .objects → objectRecord t (c .ipdus) i .kind ≡ 1 → objectState n i .occurrence ≡ objectState m i .occurrence
     pub slot : (k : ℕ) → k < c .ipdus → ipduRecord t k .direction ≡ 1 → part (slotAt k) 8 n ≡ part (slotAt k) 8 m
 
   pub same-refl : (m : List ℕ) → Same m m
-  same-refl m = record { stopped = refl; old = λ i h k. refl; count = λ i h k. refl; slot = λ k h d. refl }
+  same-refl m = record { running = refl; old = λ i h k. refl; count = λ i h k. refl; slot = λ k h d. refl }
 
   pub same-trans : (l m n : List ℕ) → Same l m → Same m n → Same l n
   same-trans l m n a b =
       record {
-        stopped = b .stopped ∙ a .stopped;
+        running = b .running ∙ a .running;
         old = λ i h k. b .old i h k ∙ a .old i h k;
         count = λ i h k. b .count i h k ∙ a .count i h k;
         slot = λ k h d. b .slot k h d ∙ a .slot k h d;
@@ -103,10 +104,10 @@ module _ (t : List ℕ) (c : Counts) where
       → ObjectKept (objectRecord t (c .ipdus) j .depth) (Rattle.table.specs.Check.depths t c j) s
       → (objectRecord t (c .ipdus) j .kind ≡ 1 → s .old ≡ objectState m j .old)
       → (objectRecord t (c .ipdus) j .kind ≡ 1 → s .occurrence ≡ objectState m j .occurrence) → Same m (withObjectState m j s)
-  unfolding stoppedAt get
+  unfolding runningAt numberAt
   same-object m ready j h s kept old count =
       record {
-        stopped = ap value (object-part m j s room 0 1 (inl (omega arith)));
+        running = ap value (object-part m j s room 0 1 (inl (omega arith)));
         old = λ i b k.
             ⊎-elim
             (λ (e : i ≡ j). rw (e, stored) (old (rw e at k)))
@@ -128,10 +129,10 @@ module _ (t : List ℕ) (c : Counts) where
 
   -- an I-PDU's row
   pub same-ipdu : (m : List ℕ) → Ready t c m → (k : ℕ) → k < c .ipdus → (s : IpduState) → Same m (withIpduState m k s)
-  unfolding stoppedAt get
+  unfolding runningAt numberAt
   same-ipdu m ready k h s =
       record {
-        stopped = ap value (ipdu-part m k s room 0 1 (inl (omega arith)));
+        running = ap value (ipdu-part m k s room 0 1 (inl (omega arith)));
         old = λ i b e. ap (λ (x : ObjectState). x .old) (ipdu-keeps-objects m k s room low i);
         count = λ i b e. ap (λ (x : ObjectState). x .occurrence) (ipdu-keeps-objects m k s room low i);
         slot = λ j b d. ipdu-part m k s room (slotAt j) 8 (inr (omega (arith, low)));
@@ -145,10 +146,10 @@ module _ (t : List ℕ) (c : Counts) where
 
   -- bytes behind the rows, or in the slot of a receive I-PDU
   pub same-queue : (m : List ℕ) → Ready t c m → (at : ℕ) (f : List ℕ) → at + length f ≤ length m → 2832 ≤ at → Same m (replaced at f m)
-  unfolding stoppedAt get
+  unfolding runningAt numberAt
   same-queue m ready at f room high =
       record {
-        stopped = ap value (part-apart at f m 0 1 room (inl (omega (arith, high))));
+        running = ap value (part-apart at f m 0 1 room (inl (omega (arith, high))));
         old = λ i b k. ap (λ (x : ObjectState). x .old) (row i b);
         count = λ i b k. ap (λ (x : ObjectState). x .occurrence) (row i b);
         slot = λ k b d. part-apart at f m (slotAt k) 8 room (inl (omega (arith, high, b, ready .right .shape .ipdus)));
@@ -160,10 +161,10 @@ module _ (t : List ℕ) (c : Counts) where
 
   pub same-slot : (m : List ℕ) → Ready t c m → (j : ℕ) → j < c .ipdus → (ipduRecord t j .direction ≡ 1 → ⊥) → (f : List ℕ) → length f ≤ 8
       → Same m (replaced (slotAt j) f m)
-  unfolding stoppedAt get
+  unfolding runningAt numberAt
   same-slot m ready j h received f few =
       record {
-        stopped = ap value (part-apart (slotAt j) f m 0 1 room (inl (omega arith)));
+        running = ap value (part-apart (slotAt j) f m 0 1 room (inl (omega arith)));
         old = λ i b k. ap (λ (x : ObjectState). x .old) (row i);
         count = λ i b k. ap (λ (x : ObjectState). x .occurrence) (row i);
         slot = λ k b d.
@@ -187,7 +188,7 @@ module _ (t : List ℕ) (c : Counts) where
 
   pub record Agrees (b : Book) (m : List ℕ) : Type 0 where
     pub ready : Ready t c m
-    pub stopped : stoppedAt m ≡ pick (b .stopped) 1 0
+    pub running : runningAt m ≡ pick (b .stopped) 0 1
     pub old : (i : ℕ) → i < c .objects → objectRecord t (c .ipdus) i .kind ≡ 1 → objectState m i .old ≡ lastOf i (b .entries)
     pub count : (i : ℕ) → i < c .objects → objectRecord t (c .ipdus) i .kind ≡ 1 → objectState m i .occurrence ≡ b .counts i
     pub bits : (k : ℕ) → k < c .ipdus → ipduRecord t k .direction ≡ 1 → (p : ℕ) → p < 64
@@ -197,11 +198,30 @@ module _ (t : List ℕ) (c : Counts) where
   agrees-same b m n a ready s =
       record {
         ready = ready;
-        stopped = s .stopped ∙ a .stopped;
+        running = s .running ∙ a .running;
         old = λ i h k. s .old i h k ∙ a .old i h k;
         count = λ i h k. s .count i h k ∙ a .count i h k;
         bits = λ k h d p low. rw (s .slot k h d) (a .bits k h d p low);
       }
+
+  -- noting that the layer runs or is stopped
+  pub agrees-running : (b : Book) (m : List ℕ) → Agrees b m → (off : Bool)
+      → Agrees (record { entries = b .entries; counts = b .counts; stopped = off }) (withRunning m (pick off 0 1))
+  agrees-running b m a off =
+      record {
+        ready = ready-running t c m (a .ready) (pick off 0 1) (few off);
+        running = running-stored m (pick off 0 1) long (omega (arith, few off));
+        old = λ i h k. ap (λ (x : ObjectState). x .old) (running-row m (pick off 0 1) long i) ∙ a .old i h k;
+        count = λ i h k. ap (λ (x : ObjectState). x .occurrence) (running-row m (pick off 0 1) long i) ∙ a .count i h k;
+        bits = λ k h d p low. rw (running-part m (pick off 0 1) long (slotAt k) 8 (omega arith)) (a .bits k h d p low);
+      }
+    where
+      long : length m ≡ memorySize
+      long = a .ready .long
+
+      few : (x : Bool) → pick x 0 1 ≤ 1
+      few true = omega arith
+      few false = omega arith
 
   -- ---- packing is an entry
 
@@ -225,8 +245,8 @@ module _ (t : List ℕ) (c : Counts) where
           → frameBit (part (slotAt k) 8 (pack (object t c i) v m)) p ≡ bookBit t c (enter i v b) k p
       mine e =
           let same : objectRecord t (c .ipdus) i .ipdu ≡ k = eqb-true (objectRecord t (c .ipdus) i .ipdu) k e in
-          let some : eqb (objectRecord t (c .ipdus) i .ipdu) none ≡ false =
-          ne-eqb (objectRecord t (c .ipdus) i .ipdu) none (λ z. absurd (omega (arith, z, same, low, right .shape .ipdus))) in
+          let some : eqb (objectRecord t (c .ipdus) i .ipdu) absent ≡ false =
+          ne-eqb (objectRecord t (c .ipdus) i .ipdu) absent (λ z. absurd (omega (arith, z, same, low, right .shape .ipdus))) in
           let eight : length (part (slotAt k) 8 m) ≡ 8 = part-length (slotAt k) 8 m (omega (arith, low, long, right .shape .ipdus)) in
           let held : part (slotAt k) 8 (pack (object t c i) v m) ≡ packed (orderOf (r .order)) (r .start) (r .size) v (part (slotAt k) 8 m) =
           ap (λ (n : ℕ). part (slotAt n) 8 (pack (object t c i) v m)) (sym same) ∙ pack-holds (object t c i) v m placed some

@@ -9,9 +9,9 @@ use native.Mathlib.Nat.{not-suc-le-zero}
 use native.Mathlib.Omega.{arith}
 use lib.Dec.{eqb}
 use lib.ListN.{length, getD, replicate, length-replicate, getD-replicate, List·getD-eq-default}
-use Rattle.memory.specs.Bytes.{Bytes, value, get, part}
+use Rattle.memory.specs.Bytes.{Bytes, value, numberAt, part}
 use Rattle.memory.specs.Search.{pick, fold}
-use Rattle.memory.proofs.Laws.{get-one, get-lt, part-apart, replaced-bytes}
+use Rattle.memory.proofs.Laws.{number-one, number-lt, part-apart, replaced-bytes}
 use Rattle.memory.proofs.Search.{below-suc}
 use Rattle.memory.proofs.Tests.{lt-or-le, true-or-false}
 use Rattle.bits.specs.Bits.{packed}
@@ -21,13 +21,13 @@ use Rattle.table.specs.declared.Direction.{Direction}
 use Rattle.table.specs.declared.Direction.the-variants.{Send, Receive}
 use Rattle.table.specs.declared.Ipdu.{Ipdu}
 use Rattle.table.specs.declared.Object.{Object}
-use Rattle.table.specs.Records.{none, objectRecord}
+use Rattle.table.specs.Records.{absent, objectRecord}
 use Rattle.table.specs.Check.{depths}
 use Rattle.table.specs.Decode.{objectOf, Right}
 use Rattle.table.proofs.Accepted.{Usable}
 use Rattle.state.specs.declared.IpduState.{IpduState}
 use Rattle.state.specs.declared.ObjectState.{ObjectState}
-use Rattle.state.specs.Layout.{memorySize, stoppedAt, slotAt, ipduRow, ipduState, withIpduState, objectRow, objectState, withObjectState}
+use Rattle.state.specs.Layout.{memorySize, runningAt, slotAt, ipduRow, ipduState, withIpduState, objectRow, objectState, withObjectState}
 use Rattle.state.specs.Ranges.{ipduInRange, objectInRange, Ready}
 use Rattle.state.proofs.Laws.{IpduFits, ObjectFits, ipdu-length, ipdu-part, ipdu-stored, ipdu-bytes, ipdu-other, ipdu-read, object-length, object-part, object-stored, object-bytes, object-other, object-keeps-ipdus}
 use Rattle.state.proofs.Ready.{ObjectKept, kept-object}
@@ -36,7 +36,7 @@ use Rattle.message.specs.Objects.{object, Placed, startBit, pack}
 use Rattle.message.proofs.Kept.{right-placed, pack-length, pack-room, packed-slot-length}
 use Rattle.transmission.specs.Requests.{ipdu}
 use Rattle.transmission.proofs.Kept.{Times, times, SendKept, kept-send, ReceiveKept, kept-receive}
-use Rattle.layer.specs.Start.{blank, idle, firstTimer, startIpdu, unused, startAs, startObject, started}
+use Rattle.layer.specs.Start.{blank, idle, firstTimer, startIpdu, unused, startAs, startObject, prepared}
 use Rattle.trace.proofs.Rows.{pack-row}
 
 -- ---- rows after a start
@@ -134,16 +134,16 @@ module _ (t : List ℕ) (c : Counts) (right : Right t c) (bt : Bytes t) where
   pub record Begun (n : ℕ) (m : List ℕ) : Type 0 where
     pub long : length m ≡ memorySize
     pub bytes : Bytes m
-    pub stopped : stoppedAt m ≡ 0
+    pub running : runningAt m ≡ 0
     pub ipdus : (k : ℕ) → k < n → ipduInRange (ipdu t k) (ipduState m k) ≡ true
 
   pub begun : (n : ℕ) → n ≤ c .ipdus → Begun n (fold n (startIpdu t) blank)
-  unfolding blank stoppedAt get
+  unfolding blank runningAt numberAt
   begun zero h =
       record {
         long = length-replicate {A = ℕ} memorySize 0;
         bytes = zero-bytes;
-        stopped = get-one 0 (replicate memorySize 0) ∙ getD-replicate {A = ℕ} memorySize 0 0 0 (omega arith);
+        running = number-one 0 (replicate memorySize 0) ∙ getD-replicate {A = ℕ} memorySize 0 0 0 (omega arith);
         ipdus = λ k b. absurd (not-suc-le-zero b);
       }
   begun (suc n) h = more (begun n (omega (arith, h)))
@@ -160,7 +160,7 @@ module _ (t : List ℕ) (c : Counts) (right : Right t c) (bt : Bytes t) where
           record {
             long = ipdu-length m n s room ∙ b .long;
             bytes = ipdu-bytes m n s (b .bytes);
-            stopped = ap value (ipdu-part m n s room 0 1 (inl (omega arith))) ∙ b .stopped;
+            running = ap value (ipdu-part m n s room 0 1 (inl (omega arith))) ∙ b .running;
             ipdus = below-suc {P = λ (k : ℕ). ipduInRange (ipdu t k) (ipduState (withIpduState m n s) k) ≡ true}
                 (λ k low. rw (ipdu-other m n s room k (λ e. absurd (omega (arith, low, e)))) (b .ipdus k low))
                 (rw (ipdu-stored m n s room (idle-fits _ (timer-fits (ipdu t n) (times t n bt) (ipdu t n .direction)))) (idle-range (ipdu t n) (ipdu t n .direction) refl));
@@ -171,29 +171,29 @@ module _ (t : List ℕ) (c : Counts) (right : Right t c) (bt : Bytes t) where
   unfolding pack
   pack-part o v m placed j w low =
       ⊎-elim
-      (λ (e : eqb (o .ipdu .0) none ≡ true). rw e)
-      (λ (e : eqb (o .ipdu .0) none ≡ false).
+      (λ (e : eqb (o .ipdu .0) absent ≡ true). rw e)
+      (λ (e : eqb (o .ipdu .0) absent ≡ false).
       rw e
       (part-apart (slotAt (o .ipdu .0)) (packed (o .order) (startBit o) (o .size .0) v (part (slotAt (o .ipdu .0)) 8 m)) m j w
       (omega (arith, packed-slot-length o v m placed e, pack-room o v m placed e)) (inl (omega (arith, low)))))
-      (true-or-false (eqb (o .ipdu .0) none))
+      (true-or-false (eqb (o .ipdu .0) absent))
 
   pack-bytes : (o : Object) (v : ℕ) (m : List ℕ) → Bytes m → Bytes (pack o v m)
   unfolding pack
   pack-bytes o v m bs =
       ⊎-elim
-      (λ (e : eqb (o .ipdu .0) none ≡ true). rw e bs)
-      (λ (e : eqb (o .ipdu .0) none ≡ false).
+      (λ (e : eqb (o .ipdu .0) absent ≡ true). rw e bs)
+      (λ (e : eqb (o .ipdu .0) absent ≡ false).
       rw e
       (replaced-bytes (slotAt (o .ipdu .0)) (packed (o .order) (startBit o) (o .size .0) v (part (slotAt (o .ipdu .0)) 8 m)) m
       (packed-bytes (o .order) (startBit o) (o .size .0) v (part (slotAt (o .ipdu .0)) 8 m)) bs))
-      (true-or-false (eqb (o .ipdu .0) none))
+      (true-or-false (eqb (o .ipdu .0) absent))
 
   -- all I-PDUs and the objects below n are as a start leaves them
   pub record Set (n : ℕ) (m : List ℕ) : Type 0 where
     pub long : length m ≡ memorySize
     pub bytes : Bytes m
-    pub stopped : stoppedAt m ≡ 0
+    pub running : runningAt m ≡ 0
     pub ipdus : (k : ℕ) → k < c .ipdus → ipduInRange (ipdu t k) (ipduState m k) ≡ true
     pub objects : (i : ℕ) → i < n → objectInRange (objectRecord t (c .ipdus) i .depth) (depths t c i) (objectState m i) ≡ true
 
@@ -206,7 +206,7 @@ module _ (t : List ℕ) (c : Counts) (right : Right t c) (bt : Bytes t) where
 
     pub initial-fits : object t c n .initial < 2 ^ 32
     unfolding objectOf Rattle.table.specs.Records.objectRecord
-    initial-fits = get-lt 4 _ t bt
+    initial-fits = number-lt 4 _ t bt
 
     pub queue-low : depths t c n ≤ 512
     queue-low = omega (arith, depth-sum t c right n h)
@@ -214,14 +214,14 @@ module _ (t : List ℕ) (c : Counts) (right : Right t c) (bt : Bytes t) where
     -- a row set over a memory that agrees with this one on all rows
     set-row : (l : List ℕ) (v : ℕ) → v < 2 ^ 32 → length l ≡ length m → Bytes l → ((j w : ℕ) → j + w ≤ 528 → part j w l ≡ part j w m)
         → ((i : ℕ) → objectState l i ≡ objectState m i) → Set (suc n) (withObjectState l n (unused v (object t c n .initial) (depths t c n)))
-    unfolding stoppedAt get
+    unfolding runningAt numberAt
     set-row l v small same bs low rows =
         let there : objectRow n + 16 ≤ length l = omega (arith, room, same) in
         let s : ObjectState = unused v (object t c n .initial) (depths t c n) in
         record {
           long = object-length l n s there ∙ same ∙ b .long;
           bytes = object-bytes l n s bs;
-          stopped = ap value (object-part l n s there 0 1 (inl (omega arith)) ∙ low 0 1 (omega arith)) ∙ b .stopped;
+          running = ap value (object-part l n s there 0 1 (inl (omega arith)) ∙ low 0 1 (omega arith)) ∙ b .running;
           ipdus = λ k few.
               rw (object-keeps-ipdus l n s there k (omega (arith, few, right .shape .ipdus)) ∙ ipdu-read l m k (λ o w e. low (ipduRow k + o) w (omega (arith, e, few, right .shape .ipdus))))
               (b .ipdus k few);
@@ -233,14 +233,14 @@ module _ (t : List ℕ) (c : Counts) (right : Right t c) (bt : Bytes t) where
 
     -- packing leaves all rows
     set-packed : (l : List ℕ) → Set (suc n) l → Set (suc n) (pack (object t c n) (object t c n .initial) l)
-    unfolding stoppedAt get
+    unfolding runningAt numberAt
     set-packed l x =
         let there : Placed (object t c n) l = right-placed t c l right (omega (arith, x .long)) n h in
         let v : ℕ = object t c n .initial in
         record {
           long = pack-length (object t c n) v l there ∙ x .long;
           bytes = pack-bytes (object t c n) v l (x .bytes);
-          stopped = ap value (pack-part (object t c n) v l there 0 1 (omega arith)) ∙ x .stopped;
+          running = ap value (pack-part (object t c n) v l there 0 1 (omega arith)) ∙ x .running;
           ipdus = λ k few.
               rw (ipdu-read (pack (object t c n) v l) l k (λ o w e. pack-part (object t c n) v l there (ipduRow k + o) w (omega (arith, e, few, right .shape .ipdus))))
               (x .ipdus k few);
@@ -256,21 +256,21 @@ module _ (t : List ℕ) (c : Counts) (right : Right t c) (bt : Bytes t) where
   pub all-set : (n : ℕ) → n ≤ c .objects → Set n (fold n (startObject t c) (fold (c .ipdus) (startIpdu t) blank))
   all-set zero h =
       let b = begun (c .ipdus) (omega arith) in
-      record { long = b .long; bytes = b .bytes; stopped = b .stopped; ipdus = b .ipdus; objects = λ i e. absurd (not-suc-le-zero e) }
+      record { long = b .long; bytes = b .bytes; running = b .running; ipdus = b .ipdus; objects = λ i e. absurd (not-suc-le-zero e) }
   all-set (suc n) h =
       set-more n h (fold n (startObject t c) (fold (c .ipdus) (startIpdu t) blank)) (all-set n (omega (arith, h))) (object t c n .direction)
 
-  -- a start leaves every stored number in its range
-  pub start-ready : Ready t c (started t c)
-  unfolding started
-  start-ready =
+  -- a start leaves every stored number in its range, before it notes that the layer runs too
+  pub prepared-ready : Ready t c (prepared t c)
+  unfolding prepared
+  prepared-ready =
       let b = all-set (c .objects) (omega arith) in
       record {
         right = right;
         tables = bt;
         long = omega (arith, b .long);
         bytes = b .bytes;
-        stopped = rw (b .stopped);
+        running = rw (b .running);
         ipdus = b .ipdus;
         objects = b .objects;
       }

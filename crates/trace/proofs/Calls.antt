@@ -21,17 +21,18 @@ use Rattle.table.specs.declared.Counts.{Counts}
 use Rattle.table.specs.declared.Verdict.the-variants.{Accepted}
 use Rattle.table.specs.Records.{ipduRecord}
 use Rattle.table.specs.Check.{check}
-use Rattle.state.specs.Layout.{memorySize, slotAt, objectState}
+use Rattle.state.specs.Layout.{memorySize, slotAt, objectState, areaSize}
 use Rattle.message.specs.Objects.{object, lets}
 use Rattle.message.specs.Delivery.{deliverInside}
 use Rattle.layer.specs.declared.Admission.the-variants.{Admitted, Refused}
-use Rattle.layer.specs.declared.Answer.the-variants.{WrongMemory, Stopped}
-use Rattle.layer.specs.Answers.{Outcome, valueOf, front, admission, follow}
+use Rattle.calls.specs.declared.Answer.the-variants.{WrongMemory, Stopped}
+use Rattle.calls.specs.Answers.{Outcome, valueOf}
+use Rattle.layer.specs.Admission.{workingMemory, admission, ifAdmitted}
 use Rattle.layer.specs.Start.{startCall}
-use Rattle.layer.specs.Calls.{isObject, stopIn, wants, request, sendOf, sendIn, initialiseIn}
-use Rattle.layer.specs.Tick.{tickIn}
-use Rattle.layer.specs.Step.{Call, start, stop, send, initialise, receive, status, marks, clearMarks, startPeriodic, stopPeriodic, indication, confirm, tick, areaSize, step}
-use Rattle.layer.proofs.Laws.{ipdu-short}
+use Rattle.calls.specs.Calls.{isObject, stopIn, wants, request, sendOf, sendIn, initialiseIn}
+use Rattle.calls.specs.Tick.{tickIn}
+use Rattle.layer.specs.Step.{Call, start, stop, send, initialise, receive, status, marks, clearMarks, startPeriodic, stopPeriodic, indication, confirm, tick, step}
+use Rattle.calls.proofs.Records.{ipdu-short}
 use Rattle.trace.specs.Book.{Book, fed, advance}
 use Rattle.trace.specs.Demand3.{Typed, AllTyped, done, wordOf, frame, Judged, CallKept, AllKept}
 use Rattle.trace.proofs.Agree.{Agrees}
@@ -73,11 +74,11 @@ module _ (t : List ℕ) (c : Counts) (accepted : check t ≡ Accepted c) (bt : B
   module _ (b : Book) (m : List ℕ) (f : Follows t c b m) where
     -- ---- refusals
 
-    follow-judged : (fits : Bool) (area : List ℕ) (g : Counts → List ℕ → Outcome) (went : Bool) → done (g c (front m)) ≡ went
-        → done (follow (admission t m fits) m area g) ≡ (fits && not (b .stopped) && went)
+    follow-judged : (fits : Bool) (area : List ℕ) (g : Counts → List ℕ → Outcome) (went : Bool) → done (g c (workingMemory m)) ≡ went
+        → done (ifAdmitted (admission t m fits) m area g) ≡ (fits && not (b .stopped) && went)
     follow-judged fits area g went e = rw (admission-is t c accepted bt b m f fits) (cases fits (b .stopped))
       where
-        cases : (x s : Bool) → done (follow (pick x (pick s (Refused Stopped) (Admitted c)) (Refused WrongMemory)) m area g) ≡ (x && not s && went)
+        cases : (x s : Bool) → done (ifAdmitted (pick x (pick s (Refused Stopped) (Admitted c)) (Refused WrongMemory)) m area g) ≡ (x && not s && went)
         cases false s = refl
         cases true true = refl
         cases true false = e
@@ -90,8 +91,8 @@ module _ (t : List ℕ) (c : Counts) (accepted : check t ≡ Accepted c) (bt : B
         whole : (x : Bool) → (x && true) ≡ x
         whole true = refl
         whole false = refl
-    step-judged (send i v area) = follow-judged (leb areaSize (length area)) area (λ d. sendIn t d i v area) (isObject t c 1 i) (send-done t c (front m) i v area)
-    step-judged (initialise i v) = follow-judged true [] (λ d. initialiseIn t d i v) (ltb i (c .objects)) (initialise-done t c (front m) i v)
+    step-judged (send i v area) = follow-judged (leb areaSize (length area)) area (λ d. sendIn t d i v area) (isObject t c 1 i) (send-done t c (workingMemory m) i v area)
+    step-judged (initialise i v) = follow-judged true [] (λ d. initialiseIn t d i v) (ltb i (c .objects)) (initialise-done t c (workingMemory m) i v)
     step-judged (receive i) = tt
     step-judged (status i) = tt
     step-judged (marks i) = tt
@@ -105,28 +106,28 @@ module _ (t : List ℕ) (c : Counts) (accepted : check t ≡ Accepted c) (bt : B
     -- ---- frames
 
     abbrev HandsFront : Outcome → Type 0
-    HandsFront o = Hands t c (valueOf (o .answer)) (o .area) (front (o .memory))
+    HandsFront o = Hands t c (valueOf (o .answer)) (o .area) (workingMemory (o .memory))
 
-    follow-hands : (fits : Bool) (area : List ℕ) (g : Counts → List ℕ → Outcome) → (fits ≡ true → length (g c (front m) .memory) ≡ memorySize)
-        → (fits ≡ true → HandsOver t c (g c (front m))) → HandsFront (follow (admission t m fits) m area g)
+    follow-hands : (fits : Bool) (area : List ℕ) (g : Counts → List ℕ → Outcome) → (fits ≡ true → length (g c (workingMemory m) .memory) ≡ memorySize)
+        → (fits ≡ true → HandsOver t c (g c (workingMemory m))) → HandsFront (ifAdmitted (admission t m fits) m area g)
     follow-hands fits area g size x = rw (admission-is t c accepted bt b m f fits) (cases fits (b .stopped) size x)
       where
-        cases : (y s : Bool) → (y ≡ true → length (g c (front m) .memory) ≡ memorySize) → (y ≡ true → HandsOver t c (g c (front m)))
-            → HandsFront (follow (pick y (pick s (Refused Stopped) (Admitted c)) (Refused WrongMemory)) m area g)
-        cases false s l z = hands-zero t c area (front m)
-        cases true true l z = hands-zero t c area (front m)
-        cases true false l z = rw (front-of (g c (front m) .memory) m (l refl)) (z refl)
+        cases : (y s : Bool) → (y ≡ true → length (g c (workingMemory m) .memory) ≡ memorySize) → (y ≡ true → HandsOver t c (g c (workingMemory m)))
+            → HandsFront (ifAdmitted (pick y (pick s (Refused Stopped) (Admitted c)) (Refused WrongMemory)) m area g)
+        cases false s l z = hands-zero t c area (workingMemory m)
+        cases true true l z = hands-zero t c area (workingMemory m)
+        cases true false l z = rw (front-of (g c (workingMemory m) .memory) m (l refl)) (z refl)
 
-    pub step-hands : (call : Call) → Typed call → Hands t c (wordOf call (step t call m .answer)) (step t call m .area) (front (step t call m .memory))
+    pub step-hands : (call : Call) → Typed call → Hands t c (wordOf call (step t call m .answer)) (step t call m .area) (workingMemory (step t call m .memory))
     unfolding step
     step-hands (send i v area) y =
         follow-hands (leb areaSize (length area)) area (λ d. sendIn t d i v area)
-        (λ e. agrees-send t c b (front m) (f .agrees) i v y area .ready .long)
-        (λ e. send-hands t c i v y area (leb-true areaSize (length area) e) (front m) (f .agrees .ready))
+        (λ e. agrees-send t c b (workingMemory m) (f .agrees) i v y area .ready .long)
+        (λ e. send-hands t c i v y area (leb-true areaSize (length area) e) (workingMemory m) (f .agrees .ready))
     step-hands (tick area) y =
         follow-hands (leb areaSize (length area)) area (λ d. tickIn t d area)
-        (λ e. unseen-tick t c area (front m) (f .agrees .ready) (leb-true areaSize (length area) e) .ready .long)
-        (λ e. tick-hands t c area (front m) (f .agrees .ready) (leb-true areaSize (length area) e))
+        (λ e. unseen-tick t c area (workingMemory m) (f .agrees .ready) (leb-true areaSize (length area) e) .ready .long)
+        (λ e. tick-hands t c area (workingMemory m) (f .agrees .ready) (leb-true areaSize (length area) e))
     step-hands start y = hands-zero t c _ _
     step-hands stop y = hands-zero t c _ _
     step-hands (initialise i v) y = hands-zero t c _ _
@@ -152,7 +153,7 @@ module _ (t : List ℕ) (c : Counts) (accepted : check t ≡ Accepted c) (bt : B
               let n = x .named k e in
               let few = ipdu-short t c (next .ready .right) k (n .0) in
               ap (λ (g : List ℕ). frameBit g p) (x .slot k e)
-              ∙ short-bit (slotAt k) (ipduRecord t k .length) (front (step t call m .memory)) p few (omega (arith, n .0, next .ready .right .shape .ipdus, next .ready .long)) low
+              ∙ short-bit (slotAt k) (ipduRecord t k .length) (workingMemory (step t call m .memory)) p few (omega (arith, n .0, next .ready .right .shape .ipdus, next .ready .long)) low
               ∙ next .bits k (n .0) (n .1) p (omega (arith, low, few));
         }
 

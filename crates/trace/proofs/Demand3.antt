@@ -7,7 +7,7 @@ use Prim.Native.Nat.{ℕ}
 use Rattle.memory.specs.Bytes.{Bytes}
 use Rattle.table.specs.declared.Counts.{Counts}
 use Rattle.table.specs.Records.{counts}
-use Rattle.layer.specs.Answers.{numberOf, valueOf}
+use Rattle.calls.specs.Answers.{numberOf, valueOf}
 use Rattle.layer.specs.Step.{Call, start, step}
 use Rattle.trace.specs.Book.{Book, unopened, opened, advance}
 use Rattle.trace.specs.Demand3.{done, CallKept, AllAlike, SameAnswer, Demand3}

@@ -15,7 +15,8 @@ use Rattle.memory.proofs.Search.{picked}
 use Rattle.memory.proofs.Tests.{and-split, eq-or-ne, true-or-false, true-not-false}
 use Rattle.table.specs.declared.Counts.{Counts}
 use Rattle.table.specs.Records.{objectRecord}
-use Rattle.layer.specs.Step.{Call, areaSize}
+use Rattle.layer.specs.Step.{Call}
+use Rattle.state.specs.Layout.{areaSize}
 use Rattle.trace.specs.Book.{Entry, Book, Fed, fedStart, fedStop, fedSend, fedInitialise, fedOther, fed, enter, sends, openEntry, opened, keeps, accepts, entered, advance, ownsBit, messageBit, bookBit}
 
 abbrev pub has : ℕ → List Entry → Bool

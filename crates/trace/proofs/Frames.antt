@@ -22,7 +22,7 @@ use Rattle.bits.proofs.Places.{room-slot, position-twice}
 use Rattle.table.specs.declared.Counts.{Counts}
 use Rattle.table.specs.declared.Object.{Object}
 use Rattle.table.specs.declared.ObjectRecord.{ObjectRecord}
-use Rattle.table.specs.Records.{none, ipduRecord, objectRecord}
+use Rattle.table.specs.Records.{absent, ipduRecord, objectRecord}
 use Rattle.table.specs.Rules.{orderOf}
 use Rattle.table.specs.Decode.{ipduOf, objectOf, Right}
 use Rattle.table.proofs.Accepted.{Usable, usable}
@@ -36,10 +36,10 @@ use Rattle.message.specs.Delivery.{deliverInside, deliverFrame}
 use Rattle.message.proofs.Kept.{kept-filtered, ready-inside, ready-frame, right-placed, pack-length}
 use Rattle.message.proofs.Apart.{inside-row, frame-row}
 use Rattle.transmission.specs.Requests.{ipdu, timerSet}
-use Rattle.layer.specs.declared.Answer.the-variants.{Done}
-use Rattle.layer.specs.Answers.{Outcome, outcome, valueOf}
-use Rattle.layer.specs.Calls.{isObject, request, sendOf, sendIn, receiveIn, timed, indicationOf, wants}
-use Rattle.layer.proofs.Laws.{object-there, object-kind, wants-some, ipdu-short, has-ipdu}
+use Rattle.calls.specs.declared.Answer.the-variants.{Done}
+use Rattle.calls.specs.Answers.{Outcome, outcome, valueOf}
+use Rattle.calls.specs.Calls.{isObject, request, sendOf, sendIn, receiveIn, timed, indicationOf, wants}
+use Rattle.calls.proofs.Records.{object-there, object-kind, wants-some, ipdu-short, has-ipdu}
 use Rattle.trace.proofs.Rows.{pack-row, pack-holds, request-rows}
 use Rattle.trace.proofs.Hands.{offer-frame, request-offer}
 
@@ -76,13 +76,13 @@ module _ (t : List ℕ) (c : Counts) (right : Right t c) (i : ℕ) (h : i < c .o
   start-bit =
       position-twice (orderOf (objectRecord t (c .ipdus) i .order)) (objectRecord t (c .ipdus) i .start) (usable t c right i h .start)
 
-  pub room-there : eqb (objectRecord t (c .ipdus) i .ipdu) none ≡ false
+  pub room-there : eqb (objectRecord t (c .ipdus) i .ipdu) absent ≡ false
       → room (object t c i .order) (startBit (object t c i)) (object t c i .size .0) (ipduRecord t (objectRecord t (c .ipdus) i .ipdu) .length) ≡ true
   unfolding objectOf
   room-there some =
       rw start-bit (usable t c right i h .room some)
 
-  room-placed : eqb (objectRecord t (c .ipdus) i .ipdu) none ≡ false
+  room-placed : eqb (objectRecord t (c .ipdus) i .ipdu) absent ≡ false
       → room (object t c i .order) (startBit (object t c i)) (object t c i .size .0) (ipdu t (objectRecord t (c .ipdus) i .ipdu) .length .0) ≡ true
   unfolding ipduOf
   room-placed some = room-there some
@@ -91,7 +91,7 @@ module _ (t : List ℕ) (c : Counts) (right : Right t c) (i : ℕ) (h : i < c .o
   unfolding objectOf
   size-some = usable t c right i h .slot .some
 
-  pub low-ipdu : eqb (objectRecord t (c .ipdus) i .ipdu) none ≡ false → objectRecord t (c .ipdus) i .ipdu < c .ipdus
+  pub low-ipdu : eqb (objectRecord t (c .ipdus) i .ipdu) absent ≡ false → objectRecord t (c .ipdus) i .ipdu < c .ipdus
   low-ipdu some = usable t c right i h .ipdu some .0
 
 -- ---- send
@@ -133,12 +133,12 @@ module _ (t : List ℕ) (c : Counts) (m : List ℕ) (ready : Ready t c m) (i : �
   unfolding sendIn sendOf
   sent-as b p = rw is (ap (λ (x : Bool). pick x (request t (object t c i) area (pack (object t c i) v after)) (outcome (Done 0) after area)) p)
 
-  slot-there : eqb (object t c i .ipdu .0) none ≡ false → slotAt (object t c i .ipdu .0) + 8 ≤ length after
+  slot-there : eqb (object t c i .ipdu .0) absent ≡ false → slotAt (object t c i .ipdu .0) + 8 ≤ length after
   slot-there some = omega (arith, placed-after .ipdu some, after-ready .long)
 
   -- the object has an I-PDU, and the frame that a send hands over is the front of the slot that was packed
   pub record Sent : Type 0 where
-    pub some : eqb (object t c i .ipdu .0) none ≡ false
+    pub some : eqb (object t c i .ipdu .0) absent ≡ false
     pub frame : part (8 * (object t c i .ipdu .0)) (ipdu t (object t c i .ipdu .0) .length .0) (sendIn t c i v area m .area)
         ≡ take (ipdu t (object t c i .ipdu .0) .length .0)
         (packed (object t c i .order) (startBit (object t c i)) (object t c i .size .0) v (part (slotAt (object t c i .ipdu .0)) 8 after))
@@ -160,7 +160,7 @@ module _ (t : List ℕ) (c : Counts) (m : List ℕ) (ready : Ready t c m) (i : �
           offer-frame t c (ready .right) (objectRecord t (c .ipdus) i .ipdu) (low-ipdu t c (ready .right) i here (wants-some t o w)) area (pack o v after) long
           (pack-length o v after placed-after ∙ after-ready .long) (request t o area (pack o v after)) (request-offer t c (ready .right) i is w area (pack o v after)) some
 
-      held : eqb (o .ipdu .0) none ≡ false
+      held : eqb (o .ipdu .0) absent ≡ false
           → part (slotAt (o .ipdu .0)) (ipdu t (o .ipdu .0) .length .0) (pack o v after)
           ≡ take (ipdu t (o .ipdu .0) .length .0) (packed (o .order) (startBit o) (o .size .0) v (part (slotAt (o .ipdu .0)) 8 after))
       held some =
@@ -259,7 +259,7 @@ inside-whole t c m ready i j v area small sends gets from flat passes =
 -- ---- indication
 
 module _ (t : List ℕ) (c : Counts) (m : List ℕ) (ready : Ready t c m) (j : ℕ) (gets : isObject t c 2 j ≡ true)
-    (flat : objectRecord t (c .ipdus) j .depth ≡ 0) (some : eqb (objectRecord t (c .ipdus) j .ipdu) none ≡ false) (f : List ℕ) (bytes : Bytes f)
+    (flat : objectRecord t (c .ipdus) j .depth ≡ 0) (some : eqb (objectRecord t (c .ipdus) j .ipdu) absent ≡ false) (f : List ℕ) (bytes : Bytes f)
     (long : length f ≡ ipduRecord t (objectRecord t (c .ipdus) j .ipdu) .length) where
   below : j < c .objects
   below = object-there t c 2 j gets
@@ -341,7 +341,7 @@ pub record Like (t : List ℕ) (r : ObjectRecord) (u : List ℕ) (s : ObjectReco
 module _ (t : List ℕ) (c : Counts) (m : List ℕ) (ready : Ready t c m) (i v : ℕ) (sends : isObject t c 1 i ≡ true) (small : v < 2 ^ 32)
     (area : List ℕ) (long : 256 ≤ length area) (made : valueOf (sendIn t c i v area m .answer) ≡ 0 → ⊥)
     (u : List ℕ) (d : Counts) (n : List ℕ) (open-u : Ready u d n) (j : ℕ) (gets : isObject u d 2 j ≡ true)
-    (flat : objectRecord u (d .ipdus) j .depth ≡ 0) (some : eqb (objectRecord u (d .ipdus) j .ipdu) none ≡ false)
+    (flat : objectRecord u (d .ipdus) j .depth ≡ 0) (some : eqb (objectRecord u (d .ipdus) j .ipdu) absent ≡ false)
     (like : Like t (objectRecord t (c .ipdus) i) u (objectRecord u (d .ipdus) j)) where
   abbrev low-bits : ℕ
   low-bits = v % 2 ^ (objectRecord t (c .ipdus) i .size)

@@ -17,14 +17,13 @@ use Rattle.table.specs.Records.{ipduRecord, objectRecord}
 use Rattle.table.specs.Decode.{ipduOf, objectOf, Right}
 use Rattle.table.proofs.Accepted.{Usable, usable}
 use Rattle.state.specs.declared.IpduState.{IpduState}
-use Rattle.state.specs.Layout.{memorySize, slotAt, ipduState}
+use Rattle.state.specs.Layout.{memorySize, slotAt, ipduState, areaSize}
 use Rattle.message.specs.Objects.{object}
 use Rattle.state.specs.Updates.{withWanted}
 use Rattle.transmission.specs.Requests.{ipdu, goes, handed}
-use Rattle.layer.specs.Answers.{Outcome, valueOf}
-use Rattle.layer.specs.Calls.{isObject, wants, offerOf, request}
-use Rattle.layer.specs.Step.{areaSize}
-use Rattle.layer.proofs.Laws.{object-there, object-kind, ipdu-short, wants-some}
+use Rattle.calls.specs.Answers.{Outcome, valueOf}
+use Rattle.calls.specs.Calls.{isObject, wants, offerOf, request}
+use Rattle.calls.proofs.Records.{object-there, object-kind, ipdu-short, wants-some}
 use Rattle.trace.specs.Demand3.{names}
 use Rattle.trace.proofs.Rows.{handed-front, handed-length, handed-other, handed-same}
 

@@ -8,7 +8,7 @@ use Prim.Native.Nat.{ℕ, _+_, _-_, _%_, _^_, _≤_, _<_}
 use native.Mathlib.Omega.{arith}
 use borrow.Author.Tests.{eq-eqb, ne-eqb}
 use lib.ListN.{length}
-use Rattle.memory.specs.Bytes.{value, part, get}
+use Rattle.memory.specs.Bytes.{value, part, numberAt}
 use Rattle.memory.specs.Search.{pick}
 use Rattle.memory.proofs.Tests.{eq-or-ne, true-or-false}
 use Rattle.filter.specs.Filters.{passes}
@@ -21,15 +21,15 @@ use Rattle.table.specs.Check.{depths}
 use Rattle.table.specs.Decode.{objectOf}
 use Rattle.table.proofs.Accepted.{Usable}
 use Rattle.state.specs.declared.ObjectState.{ObjectState}
-use Rattle.state.specs.Layout.{stoppedAt, slotAt, objectRow, objectState, withObjectState}
+use Rattle.state.specs.Layout.{runningAt, slotAt, objectRow, objectState, withObjectState}
 use Rattle.state.specs.Ranges.{Ready}
 use Rattle.state.proofs.Laws.{object-part, object-stored, object-other}
 use Rattle.state.proofs.Ready.{ObjectKept, kept-fits, object-row, ready-kept, ready-object}
 use Rattle.message.specs.Objects.{object, Placed, filtered, pack, initialise}
 use Rattle.message.proofs.Kept.{kept-filtered, ready-pack, ready-placed}
-use Rattle.layer.specs.Answers.{Outcome}
-use Rattle.layer.specs.Calls.{isObject, request, sendIn}
-use Rattle.layer.proofs.Laws.{object-kind}
+use Rattle.calls.specs.Answers.{Outcome}
+use Rattle.calls.specs.Calls.{isObject, request, sendIn}
+use Rattle.calls.proofs.Records.{object-kind}
 use Rattle.trace.specs.Book.{Entry, Book, enter, sends, lastOf, keeps, counted, sent}
 use Rattle.trace.proofs.Rows.{pack-row, pack-front}
 use Rattle.trace.proofs.Frames.{here, inner, judge, sent-as}
@@ -52,9 +52,9 @@ module _ (t : List ℕ) (c : Counts) (m : List ℕ) (ready : Ready t c m) (i : �
   pub row-slot : (k : ℕ) → k < c .ipdus → part (slotAt k) 8 (withObjectState m i s) ≡ part (slotAt k) 8 m
   row-slot k low = object-part m i s room (slotAt k) 8 (inl (omega (arith, low, ready .right .shape .ipdus)))
 
-  pub row-stopped : stoppedAt (withObjectState m i s) ≡ stoppedAt m
-  unfolding stoppedAt get
-  row-stopped = ap value (object-part m i s room 0 1 (inl (omega arith)))
+  pub row-running : runningAt (withObjectState m i s) ≡ runningAt m
+  unfolding runningAt numberAt
+  row-running = ap value (object-part m i s room 0 1 (inl (omega arith)))
 
 -- ---- the book's side
 
@@ -74,7 +74,7 @@ module _ (t : List ℕ) (c : Counts) (b : Book) (m : List ℕ) (a : Agrees t c b
   agrees-entry n old count others =
       record {
         ready = ready-pack t c next next-ready i h v;
-        stopped = pack-stopped ∙ row-stopped t c m (a .ready) i h s kept ∙ a .stopped;
+        running = pack-running ∙ row-running t c m (a .ready) i h s kept ∙ a .running;
         old = λ j low one.
             ap (λ (x : ObjectState). x .old) (pack-row (object t c i) v next (ready-placed t c next next-ready i h) j)
             ∙ ⊎-elim
@@ -99,8 +99,8 @@ module _ (t : List ℕ) (c : Counts) (b : Book) (m : List ℕ) (a : Agrees t c b
       next-ready : Ready t c (withObjectState m i s)
       next-ready = ready-object t c m (a .ready) i h s kept
 
-      pack-stopped : stoppedAt (pack (object t c i) v next) ≡ stoppedAt next
-      pack-stopped = pack-front (object t c i) v next (ready-placed t c next next-ready i h)
+      pack-running : runningAt (pack (object t c i) v next) ≡ runningAt next
+      pack-running = pack-front (object t c i) v next (ready-placed t c next next-ready i h)
 
   -- a dropped value: the row's count alone
   pub agrees-dropped : (n : ℕ → ℕ) → s .old ≡ objectState m i .old → s .occurrence ≡ n i → ((j : ℕ) → (j ≡ i → ⊥) → n j ≡ b .counts j)
@@ -108,7 +108,7 @@ module _ (t : List ℕ) (c : Counts) (b : Book) (m : List ℕ) (a : Agrees t c b
   agrees-dropped n old count others =
       record {
         ready = ready-object t c m (a .ready) i h s kept;
-        stopped = row-stopped t c m (a .ready) i h s kept ∙ a .stopped;
+        running = row-running t c m (a .ready) i h s kept ∙ a .running;
         old = λ j low one.
             ⊎-elim
             (λ (e : j ≡ i). rw e (ap (λ (x : ObjectState). x .old) (row-own t c m (a .ready) i h s kept) ∙ old ∙ a .old i h (rw e at one)))

@@ -19,15 +19,16 @@ use Rattle.table.specs.declared.Verdict.the-variants.{Accepted, WrongHeader, Wr
 use Rattle.table.specs.Records.{counts, objectRecord}
 use Rattle.table.specs.Check.{check}
 use Rattle.table.proofs.Accepted.{accepted-right}
-use Rattle.state.specs.Layout.{memorySize, stoppedAt}
+use Rattle.state.specs.Layout.{memorySize, runningAt, areaSize}
 use Rattle.state.proofs.Ready.{ready-in-range}
 use Rattle.layer.specs.declared.Admission.the-variants.{Admitted, Refused}
-use Rattle.layer.specs.declared.Answer.the-variants.{WrongMemory, Stopped}
-use Rattle.layer.specs.Answers.{Outcome, front, admission, follow}
+use Rattle.calls.specs.declared.Answer.the-variants.{WrongMemory, Stopped}
+use Rattle.calls.specs.Answers.{Outcome}
+use Rattle.layer.specs.Admission.{workingMemory, admission, ifAdmitted}
 use Rattle.layer.specs.Start.{started, startOf, startCall}
-use Rattle.layer.specs.Calls.{stopIn, sendIn, initialiseIn, receiveIn, statusIn, marksIn, clearMarksIn, periodicIn, indicationIn, confirmIn}
-use Rattle.layer.specs.Tick.{tickIn}
-use Rattle.layer.specs.Step.{Call, start, stop, send, initialise, receive, status, marks, clearMarks, startPeriodic, stopPeriodic, indication, confirm, tick, areaSize, step}
+use Rattle.calls.specs.Calls.{stopIn, sendIn, initialiseIn, receiveIn, statusIn, marksIn, clearMarksIn, periodicIn, indicationIn, confirmIn}
+use Rattle.calls.specs.Tick.{tickIn}
+use Rattle.layer.specs.Step.{Call, start, stop, send, initialise, receive, status, marks, clearMarks, startPeriodic, stopPeriodic, indication, confirm, tick, step}
 use Rattle.trace.specs.Book.{Book, sends, sent, initialised, opened, advance}
 use Rattle.trace.specs.Demand3.{Typed, done}
 use Rattle.trace.proofs.Agree.{Agrees, agrees-same}
@@ -64,11 +65,11 @@ start-accepted t m e = cases (check t) refl e
 -- a memory that is long enough and agrees with the book
 pub record Follows (t : List ℕ) (c : Counts) (b : Book) (m : List ℕ) : Type 0 where
   pub long : memorySize ≤ length m
-  pub agrees : Agrees t c b (front m)
+  pub agrees : Agrees t c b (workingMemory m)
 
 -- ---- the first 8,192 bytes and the rest
 
-pub front-of : (x m : List ℕ) → length x ≡ memorySize → front (x ++ drop memorySize m) ≡ x
+pub front-of : (x m : List ℕ) → length x ≡ memorySize → workingMemory (x ++ drop memorySize m) ≡ x
 front-of x m e = rw e at (take-append-seam x (drop memorySize m))
 
 follows : (t : List ℕ) (c : Counts) (b : Book) (x m : List ℕ) → Agrees t c b x → Follows t c b (x ++ drop memorySize m)
@@ -79,7 +80,7 @@ follows t c b x m a =
     }
 
 -- stopped, as the book has it
-stopped-is : (s : Bool) (n : ℕ) → n ≡ pick s 1 0 → eqb n 1 ≡ s
+stopped-is : (s : Bool) (n : ℕ) → n ≡ pick s 0 1 → eqb n 0 ≡ s
 stopped-is true n e = rw e
 stopped-is false n e = rw e
 
@@ -94,35 +95,35 @@ module _ (t : List ℕ) (c : Counts) (accepted : check t ≡ Accepted c) (bt : B
     pub admission-is : (fits : Bool) → admission t m fits ≡ pick fits (pick (b .stopped) (Refused Stopped) (Admitted c)) (Refused WrongMemory)
     unfolding admission
     admission-is fits =
-        rw (accepted, le-leb memorySize (length m) (f .long), ready-in-range t c (front m) (f .agrees .ready), stopped-is (b .stopped) (stoppedAt (front m)) (f .agrees .stopped)) (both fits)
+        rw (accepted, le-leb memorySize (length m) (f .long), ready-in-range t c (workingMemory m) (f .agrees .ready), stopped-is (b .stopped) (runningAt (workingMemory m)) (f .agrees .running)) (both fits)
       where
         both : (x : Bool)
             → pick x (pick (b .stopped) (Refused Stopped) (Admitted c)) (Refused WrongMemory)
             ≡ pick x (pick (b .stopped) (Refused Stopped) (Admitted c)) (Refused WrongMemory)
         both x = refl
 
-    follow-book : (fits : Bool) (area : List ℕ) (g : Counts → List ℕ → Outcome) (after : Book) → (fits ≡ true → Agrees t c after (g c (front m) .memory))
-        → Follows t c (pick (fits && not (b .stopped)) after b) (follow (admission t m fits) m area g .memory)
+    follow-book : (fits : Bool) (area : List ℕ) (g : Counts → List ℕ → Outcome) (after : Book) → (fits ≡ true → Agrees t c after (g c (workingMemory m) .memory))
+        → Follows t c (pick (fits && not (b .stopped)) after b) (ifAdmitted (admission t m fits) m area g .memory)
     follow-book fits area g after a = rw (admission-is fits) (cases fits (b .stopped) a)
       where
-        cases : (x s : Bool) → (x ≡ true → Agrees t c after (g c (front m) .memory))
-            → Follows t c (pick (x && not s) after b) (follow (pick x (pick s (Refused Stopped) (Admitted c)) (Refused WrongMemory)) m area g .memory)
+        cases : (x s : Bool) → (x ≡ true → Agrees t c after (g c (workingMemory m) .memory))
+            → Follows t c (pick (x && not s) after b) (ifAdmitted (pick x (pick s (Refused Stopped) (Admitted c)) (Refused WrongMemory)) m area g .memory)
         cases false s z = f
         cases true true z = f
-        cases true false z = follows t c after (g c (front m) .memory) m (z refl)
+        cases true false z = follows t c after (g c (workingMemory m) .memory) m (z refl)
 
     -- a call that the book does not see
-    follow-unseen : (fits : Bool) (area : List ℕ) (g : Counts → List ℕ → Outcome) → (fits ≡ true → Unseen t c (front m) (g c (front m) .memory))
-        → Follows t c b (follow (admission t m fits) m area g .memory)
+    follow-unseen : (fits : Bool) (area : List ℕ) (g : Counts → List ℕ → Outcome) → (fits ≡ true → Unseen t c (workingMemory m) (g c (workingMemory m) .memory))
+        → Follows t c b (ifAdmitted (admission t m fits) m area g .memory)
     follow-unseen fits area g u =
         alone (fits && not (b .stopped))
-        (follow-book fits area g b (λ e. agrees-same t c b (front m) (g c (front m) .memory) (f .agrees) (u e .ready) (u e .same)))
+        (follow-book fits area g b (λ e. agrees-same t c b (workingMemory m) (g c (workingMemory m) .memory) (f .agrees) (u e .ready) (u e .same)))
       where
-        alone : (s : Bool) → Follows t c (pick s b b) (follow (admission t m fits) m area g .memory) → Follows t c b (follow (admission t m fits) m area g .memory)
+        alone : (s : Bool) → Follows t c (pick s b b) (ifAdmitted (admission t m fits) m area g .memory) → Follows t c b (ifAdmitted (admission t m fits) m area g .memory)
         alone true x = x
         alone false x = x
 
-    unseen : (g : Counts → List ℕ → Outcome) → Unseen t c (front m) (g c (front m) .memory) → Follows t c b (follow (admission t m true) m [] g .memory)
+    unseen : (g : Counts → List ℕ → Outcome) → Unseen t c (workingMemory m) (g c (workingMemory m) .memory) → Follows t c b (ifAdmitted (admission t m true) m [] g .memory)
     unseen g u = follow-unseen true [] g (λ e. u)
 
     nested : (x y : Bool) (p q : Book) (n : List ℕ) → Follows t c (pick x (pick y p q) q) n → Follows t c (pick (x && y) p q) n
@@ -139,22 +140,22 @@ module _ (t : List ℕ) (c : Counts) (accepted : check t ≡ Accepted c) (bt : B
     pub step-follows : (call : Call) → Typed call → Follows t c (advance t c b call) (step t call m .memory)
     unfolding step advance
     step-follows start y = start-follows m (f .long)
-    step-follows stop y = follow-book true [] (λ d. stopIn) _ (λ e. agrees-stop t c b (front m) (f .agrees))
+    step-follows stop y = follow-book true [] (λ d. stopIn) _ (λ e. agrees-stop t c b (workingMemory m) (f .agrees))
     step-follows (send i v area) y =
         nested (leb areaSize (length area) && not (b .stopped)) (sends t c i) (sent t c b i v) b _
         (follow-book (leb areaSize (length area)) area (λ d. sendIn t d i v area) (pick (sends t c i) (sent t c b i v) b)
-        (λ e. agrees-send t c b (front m) (f .agrees) i v y area))
+        (λ e. agrees-send t c b (workingMemory m) (f .agrees) i v y area))
     step-follows (initialise i v) y =
         bounded (not (b .stopped)) (ltb i (c .objects)) (eqb (objectRecord t (c .ipdus) i .kind) 1) _ _
-        (follow-book true [] (λ d. initialiseIn t d i v) (initialised t c b i v) (λ e. agrees-initialise t c b (front m) (f .agrees) i v y))
-    step-follows (receive i) y = unseen (λ d. receiveIn t d i) (unseen-receive t c (front m) (f .agrees .ready) i)
-    step-follows (status i) y = unseen (λ d. statusIn t d i) (unseen-status t c (front m) (f .agrees .ready) i)
-    step-follows (marks i) y = unseen (λ d. marksIn d i) (unseen-marks t c (front m) (f .agrees .ready) i)
-    step-follows (clearMarks i) y = unseen (λ d. clearMarksIn d i) (unseen-clear t c (front m) (f .agrees .ready) i)
-    step-follows startPeriodic y = unseen (λ d. periodicIn true t d) (unseen-periodic t c (front m) (f .agrees .ready) true)
-    step-follows stopPeriodic y = unseen (λ d. periodicIn false t d) (unseen-periodic t c (front m) (f .agrees .ready) false)
-    step-follows (indication k good g) y = unseen (λ d. indicationIn t d k good g) (unseen-indication t c (front m) (f .agrees .ready) k good g y)
-    step-follows (confirm k good) y = unseen (λ d. confirmIn t d k good) (unseen-confirm t c (front m) (f .agrees .ready) k good)
+        (follow-book true [] (λ d. initialiseIn t d i v) (initialised t c b i v) (λ e. agrees-initialise t c b (workingMemory m) (f .agrees) i v y))
+    step-follows (receive i) y = unseen (λ d. receiveIn t d i) (unseen-receive t c (workingMemory m) (f .agrees .ready) i)
+    step-follows (status i) y = unseen (λ d. statusIn t d i) (unseen-status t c (workingMemory m) (f .agrees .ready) i)
+    step-follows (marks i) y = unseen (λ d. marksIn d i) (unseen-marks t c (workingMemory m) (f .agrees .ready) i)
+    step-follows (clearMarks i) y = unseen (λ d. clearMarksIn d i) (unseen-clear t c (workingMemory m) (f .agrees .ready) i)
+    step-follows startPeriodic y = unseen (λ d. periodicIn true t d) (unseen-periodic t c (workingMemory m) (f .agrees .ready) true)
+    step-follows stopPeriodic y = unseen (λ d. periodicIn false t d) (unseen-periodic t c (workingMemory m) (f .agrees .ready) false)
+    step-follows (indication k good g) y = unseen (λ d. indicationIn t d k good g) (unseen-indication t c (workingMemory m) (f .agrees .ready) k good g y)
+    step-follows (confirm k good) y = unseen (λ d. confirmIn t d k good) (unseen-confirm t c (workingMemory m) (f .agrees .ready) k good)
     step-follows (tick area) y =
         follow-unseen (leb areaSize (length area)) area (λ d. tickIn t d area)
-        (λ e. unseen-tick t c area (front m) (f .agrees .ready) (leb-true areaSize (length area) e))
+        (λ e. unseen-tick t c area (workingMemory m) (f .agrees .ready) (leb-true areaSize (length area) e))

@@ -16,16 +16,17 @@ use Rattle.table.specs.declared.Counts.{Counts}
 use Rattle.table.specs.declared.Verdict.the-variants.{Accepted}
 use Rattle.table.specs.Check.{check}
 use Rattle.table.specs.Records.{counts, ipduRecord, objectRecord}
-use Rattle.state.specs.Layout.{memorySize, objectState, ipduState}
-use Rattle.message.specs.Objects.{object, lets, oldest, take}
+use Rattle.state.specs.Layout.{memorySize, objectState, ipduState, areaSize}
+use Rattle.message.specs.Objects.{object, lets, oldest, dequeue}
 use Rattle.message.specs.Delivery.{deliverInside}
 use Rattle.layer.specs.declared.Admission.the-variants.{Admitted, Refused}
-use Rattle.layer.specs.declared.Answer.the-variants.{Done, WrongId, Limit, NoMessage, WrongMemory, Stopped}
-use Rattle.layer.specs.Answers.{Outcome, outcome, numberOf, front, admission, follow}
+use Rattle.calls.specs.declared.Answer.the-variants.{Done, WrongId, Limit, NoMessage, WrongMemory, Stopped}
+use Rattle.calls.specs.Answers.{Outcome, outcome, numberOf}
+use Rattle.layer.specs.Admission.{workingMemory, admission, ifAdmitted}
 use Rattle.layer.specs.Start.{startCall}
-use Rattle.layer.specs.Calls.{isObject, isIpdu, stopIn, wants, request, sendOf, sendIn, initialiseIn, receiveIn, statusIn, marksIn, clearMarksIn, periodicIn, indicationIn, confirmIn}
-use Rattle.layer.specs.Tick.{tickIn}
-use Rattle.layer.specs.Step.{Call, start, stop, send, initialise, receive, status, marks, clearMarks, startPeriodic, stopPeriodic, indication, confirm, tick, areaSize, step}
+use Rattle.calls.specs.Calls.{isObject, isIpdu, stopIn, wants, request, sendOf, sendIn, initialiseIn, receiveIn, statusIn, marksIn, clearMarksIn, periodicIn, indicationIn, confirmIn}
+use Rattle.calls.specs.Tick.{tickIn}
+use Rattle.layer.specs.Step.{Call, start, stop, send, initialise, receive, status, marks, clearMarks, startPeriodic, stopPeriodic, indication, confirm, tick, step}
 use Rattle.trace.specs.Book.{Book, opened, advance}
 use Rattle.trace.specs.Demand3.{AllTyped, done}
 use Rattle.trace.proofs.Lists.{start-accepted, Follows, start-follows, admission-is, step-follows}
@@ -90,7 +91,7 @@ module _ (t : List ℕ) (c : Counts) (m : List ℕ) where
       either-not (isObject t c 2 i) _ _
       (either-not (eqb (objectRecord t (c .ipdus) i .depth) 0) _ _ zero-not
       (either-not (eqb (objectState m i .count) 0) _ _ (λ e. omega (arith, e))
-      (limited-not (eqb (objectState m i .overflow) 0) (oldest (objectRecord t (c .ipdus) i .depth) i m) (take (objectRecord t (c .ipdus) i .depth) i m))))
+      (limited-not (eqb (objectState m i .overflow) 0) (oldest (objectRecord t (c .ipdus) i .depth) i m) (dequeue (objectRecord t (c .ipdus) i .depth) i m))))
       (id-not [])
 
   status-in-not : (i : ℕ) → NotSix (statusIn t c i m)
@@ -123,11 +124,11 @@ module _ (t : List ℕ) (c : Counts) (m : List ℕ) where
       (id-not [])
 
 module _ (t : List ℕ) (c : Counts) (accepted : check t ≡ Accepted c) (bt : Bytes t) (b : Book) (m : List ℕ) (f : Follows t c b m) where
-  follow-not : (area : List ℕ) (g : Counts → List ℕ → Outcome) (fits : Bool) → fits ≡ true → NotSix (g c (front m))
-      → NotSix (follow (admission t m fits) m area g)
+  follow-not : (area : List ℕ) (g : Counts → List ℕ → Outcome) (fits : Bool) → fits ≡ true → NotSix (g c (workingMemory m))
+      → NotSix (ifAdmitted (admission t m fits) m area g)
   follow-not area g fits e h = rw (admission-is t c accepted bt b m f fits, e) (cases (b .stopped))
     where
-      cases : (s : Bool) → NotSix (follow (pick s (Refused Stopped) (Admitted c)) m area g)
+      cases : (s : Bool) → NotSix (ifAdmitted (pick s (Refused Stopped) (Admitted c)) m area g)
       cases true z = omega (arith, z)
       cases false z = h z
 
@@ -137,16 +138,16 @@ module _ (t : List ℕ) (c : Counts) (accepted : check t ≡ Accepted c) (bt : B
   step-not-6 start y = rw (accepted, le-leb memorySize (length m) (f .long)) zero-not
   step-not-6 stop y = follow-not [] (λ d. stopIn) true refl zero-not
   step-not-6 (send i v area) y =
-      follow-not area (λ d. sendIn t d i v area) (leb areaSize (length area)) (le-leb areaSize (length area) y) (send-not t c (front m) i v area)
-  step-not-6 (initialise i v) y = follow-not [] (λ d. initialiseIn t d i v) true refl (initialise-not t c (front m) i v)
-  step-not-6 (receive i) y = follow-not [] (λ d. receiveIn t d i) true refl (receive-not t c (front m) i)
-  step-not-6 (status i) y = follow-not [] (λ d. statusIn t d i) true refl (status-in-not t c (front m) i)
-  step-not-6 (marks i) y = follow-not [] (λ d. marksIn d i) true refl (marks-not t c (front m) i)
-  step-not-6 (clearMarks i) y = follow-not [] (λ d. clearMarksIn d i) true refl (clear-marks-not t c (front m) i)
+      follow-not area (λ d. sendIn t d i v area) (leb areaSize (length area)) (le-leb areaSize (length area) y) (send-not t c (workingMemory m) i v area)
+  step-not-6 (initialise i v) y = follow-not [] (λ d. initialiseIn t d i v) true refl (initialise-not t c (workingMemory m) i v)
+  step-not-6 (receive i) y = follow-not [] (λ d. receiveIn t d i) true refl (receive-not t c (workingMemory m) i)
+  step-not-6 (status i) y = follow-not [] (λ d. statusIn t d i) true refl (status-in-not t c (workingMemory m) i)
+  step-not-6 (marks i) y = follow-not [] (λ d. marksIn d i) true refl (marks-not t c (workingMemory m) i)
+  step-not-6 (clearMarks i) y = follow-not [] (λ d. clearMarksIn d i) true refl (clear-marks-not t c (workingMemory m) i)
   step-not-6 startPeriodic y = follow-not [] (λ d. periodicIn true t d) true refl zero-not
   step-not-6 stopPeriodic y = follow-not [] (λ d. periodicIn false t d) true refl zero-not
-  step-not-6 (indication k good g) y = follow-not [] (λ d. indicationIn t d k good g) true refl (indication-not t c (front m) k good g)
-  step-not-6 (confirm k good) y = follow-not [] (λ d. confirmIn t d k good) true refl (confirm-not t c (front m) k good)
+  step-not-6 (indication k good g) y = follow-not [] (λ d. indicationIn t d k good g) true refl (indication-not t c (workingMemory m) k good g)
+  step-not-6 (confirm k good) y = follow-not [] (λ d. confirmIn t d k good) true refl (confirm-not t c (workingMemory m) k good)
   step-not-6 (tick area) y = follow-not area (λ d. tickIn t d area) (leb areaSize (length area)) (le-leb areaSize (length area) y) zero-not
 
 -- ---- lists of calls

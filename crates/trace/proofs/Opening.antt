@@ -28,12 +28,12 @@ use Rattle.state.proofs.Laws.{ipdu-part, object-part, object-length, object-sto
 use Rattle.message.specs.Objects.{object, Placed}
 use Rattle.message.proofs.Kept.{right-placed}
 use Rattle.transmission.specs.Requests.{ipdu}
-use Rattle.layer.proofs.Laws.{object-sends, object-receives}
-use Rattle.layer.specs.Start.{blank, idle, firstTimer, startIpdu, unused, startAs, startObject, started}
+use Rattle.calls.proofs.Records.{object-sends, object-receives}
+use Rattle.layer.specs.Start.{blank, idle, firstTimer, startIpdu, unused, startAs, startObject, prepared, started}
 use Rattle.trace.specs.Book.{Entry, Book, enter, openEntry, opened, lastOf, bookBit}
 use Rattle.trace.proofs.Rows.{pack-row}
-use Rattle.trace.proofs.Begin.{zero-at, Begun, begun, Set, set-more, all-set, initial-fits, queue-low, unused-fits, start-ready}
-use Rattle.trace.proofs.Agree.{Agrees, pack-bits}
+use Rattle.trace.proofs.Begin.{zero-at, Begun, begun, Set, set-more, all-set, initial-fits, queue-low, unused-fits, prepared-ready}
+use Rattle.trace.proofs.Agree.{Agrees, agrees-running, pack-bits}
 
 -- ---- zeros
 
@@ -172,15 +172,19 @@ module _ (t : List ℕ) (c : Counts) (right : Right t c) (bt : Bytes t) where
   opens zero h = opens-none
   opens (suc n) h = by-direction n h (fold n (startObject t c) (fold (c .ipdus) (startIpdu t) blank)) (opens n (omega (arith, h)))
 
-  -- working memory after a start agrees with the book that a start opens
-  pub agrees-start : Agrees t c (opened t c) (started t c)
-  unfolding started
-  agrees-start =
+  -- working memory after a start agrees with the book that a start opens; before its last step, with one that is stopped
+  agrees-prepared : Agrees t c (record { entries = opened t c .entries; counts = opened t c .counts; stopped = true }) (prepared t c)
+  unfolding prepared
+  agrees-prepared =
       let x = opens (c .objects) (omega arith) in
       record {
-        ready = unfold started in start-ready t c right bt;
-        stopped = x .set .stopped;
+        ready = unfold prepared in prepared-ready t c right bt;
+        running = x .set .running;
         old = λ i h k. x .old i h k;
         count = λ i h k. x .count i h;
         bits = x .bits;
       }
+
+  pub agrees-start : Agrees t c (opened t c) (started t c)
+  unfolding started
+  agrees-start = agrees-running t c (record { entries = opened t c .entries; counts = opened t c .counts; stopped = true }) (prepared t c) agrees-prepared false

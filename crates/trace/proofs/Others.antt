@@ -9,9 +9,9 @@ use native.Mathlib.Omega.{arith}
 use borrow.Author.Tests.{eqb-true, eqb-false, ltb-true}
 use lib.Dec.{ltb, eqb}
 use lib.ListN.{length}
-use Rattle.memory.specs.Bytes.{Bytes, bytesOf, value, part, get, replaced}
+use Rattle.memory.specs.Bytes.{Bytes, bytesOf, value, part, numberAt, replaced}
 use Rattle.memory.specs.Search.{pick}
-use Rattle.memory.proofs.Laws.{bytesOf-length, bytesOf-bytes, part-apart, get-replaced, replaced-length, replaced-bytes}
+use Rattle.memory.proofs.Laws.{bytesOf-length, bytesOf-bytes, part-apart, number-replaced, replaced-length, replaced-bytes}
 use Rattle.memory.proofs.Search.{picked}
 use Rattle.memory.proofs.Tests.{true-or-false}
 use Rattle.table.specs.declared.Counts.{Counts}
@@ -21,22 +21,22 @@ use Rattle.table.specs.Records.{ipduRecord, objectRecord}
 use Rattle.table.specs.Check.{depths}
 use Rattle.table.specs.Decode.{ipduOf}
 use Rattle.state.specs.declared.ObjectState.{ObjectState}
-use Rattle.state.specs.Layout.{stoppedAt, slotAt, ipduRow, objectRow, objectState, withObjectState, ipduState, withIpduState}
+use Rattle.state.specs.Layout.{runningAt, slotAt, ipduRow, objectRow, objectState, withObjectState, ipduState, withIpduState}
 use Rattle.state.specs.Updates.{withOld, withValue, withMarks, withQueue}
 use Rattle.state.specs.Ranges.{Ready}
 use Rattle.state.proofs.Laws.{ipdu-read, object-read}
 use Rattle.state.proofs.Ready.{ObjectKept, ready-kept, ready-object, ready-bytes}
-use Rattle.message.specs.Objects.{object, around, take, initialiseAs, initialise}
+use Rattle.message.specs.Objects.{object, around, dequeue, initialiseAs, initialise}
 use Rattle.message.specs.Delivery.{deliverFrame}
 use Rattle.message.proofs.Laws.{around-lt}
 use Rattle.message.proofs.Kept.{kept-old, kept-value, kept-marks, kept-queue}
 use Rattle.transmission.specs.Requests.{ipdu, confirmed, timerSet}
 use Rattle.transmission.proofs.Kept.{kept-confirmed, ready-send-kept, ready-timer}
-use Rattle.layer.specs.Answers.{Outcome}
-use Rattle.layer.specs.Calls.{isObject, isIpdu, stopIn, initialiseIn, receiveIn, statusIn, marksIn, clearMarksIn, periodicIn, indicationIn, confirmIn}
-use Rattle.layer.proofs.Laws.{object-there, object-kind, object-sends, object-receives, ipdu-there, ipdu-direction, ipdu-sends, ipdu-receives, ipdu-short}
+use Rattle.calls.specs.Answers.{Outcome}
+use Rattle.calls.specs.Calls.{isObject, isIpdu, stopIn, initialiseIn, receiveIn, statusIn, marksIn, clearMarksIn, periodicIn, indicationIn, confirmIn}
+use Rattle.calls.proofs.Records.{object-there, object-kind, object-sends, object-receives, ipdu-there, ipdu-direction, ipdu-sends, ipdu-receives, ipdu-short}
 use Rattle.trace.specs.Book.{Entry, Book, enter, sends}
-use Rattle.trace.proofs.Agree.{Same, same-object, same-slot, Agrees, agrees-same}
+use Rattle.trace.proofs.Agree.{Same, same-object, same-slot, Agrees, agrees-same, agrees-running}
 use Rattle.trace.proofs.Unseen.{Unseen, unseen-refl, unseen-then, unseen-object, unseen-ipdu, unseen-send, unseen-frame, unseen-mark, unseen-periods}
 use Rattle.trace.proofs.Kept.{agrees-entry}
 
@@ -93,8 +93,8 @@ module _ (t : List ℕ) (c : Counts) where
 
     -- a value taken from a queue of a receive object
     unseen-take : (i : ℕ) → isObject t c 2 i ≡ true → eqb (objectRecord t (c .ipdus) i .depth) 0 ≡ false
-        → Unseen t c m (take (objectRecord t (c .ipdus) i .depth) i m)
-    unfolding take
+        → Unseen t c m (dequeue (objectRecord t (c .ipdus) i .depth) i m)
+    unfolding dequeue
     unseen-take i is some =
         let h = object-there t c 2 i is in
         let kept = ready-kept t c m ready i h in
@@ -185,34 +185,6 @@ module _ (t : List ℕ) (c : Counts) where
 
   -- ---- stop
 
-  -- the byte of a stopped layer, and nothing else
-  module _ (m : List ℕ) (ready : Ready t c m) where
-    stop-part : (j w : ℕ) → 1 ≤ j → part j w (replaced 0 (bytesOf 1 1) m) ≡ part j w m
-    stop-part j w b = part-apart 0 (bytesOf 1 1) m j w (omega (arith, bytesOf-length 1 1, ready .long)) (inr (omega (arith, bytesOf-length 1 1, b)))
-
-    stop-row : (i : ℕ) → objectState (replaced 0 (bytesOf 1 1) m) i ≡ objectState m i
-    stop-row i = object-read (replaced 0 (bytesOf 1 1) m) m i (λ o w h. stop-part (objectRow i + o) w (omega arith))
-
-    stop-ready : Ready t c (stopIn m .memory)
-    unfolding stopIn stoppedAt get
-    stop-ready =
-        record {
-          right = ready .right;
-          tables = ready .tables;
-          long = omega (arith, replaced-length 0 (bytesOf 1 1) m (omega (arith, bytesOf-length 1 1, ready .long)), ready .long);
-          bytes = replaced-bytes 0 (bytesOf 1 1) m (bytesOf-bytes 1 1) (ready .bytes);
-          stopped = rw (get-replaced 1 0 1 m (omega (arith, ready .long)));
-          ipdus = λ k b. rw (ipdu-read (replaced 0 (bytesOf 1 1) m) m k (λ o w h. stop-part (ipduRow k + o) w (omega arith))) (ready .ipdus k b);
-          objects = λ i b. rw (stop-row i) (ready .objects i b);
-        }
-
   pub agrees-stop : (b : Book) (m : List ℕ) → Agrees t c b m → Agrees t c (record { entries = b .entries; counts = b .counts; stopped = true }) (stopIn m .memory)
-  unfolding stopIn stoppedAt get
-  agrees-stop b m a =
-      record {
-        ready = unfold stopIn in stop-ready m (a .ready);
-        stopped = get-replaced 1 0 1 m (omega (arith, a .ready .long));
-        old = λ i h k. ap (λ (x : ObjectState). x .old) (stop-row m (a .ready) i) ∙ a .old i h k;
-        count = λ i h k. ap (λ (x : ObjectState). x .occurrence) (stop-row m (a .ready) i) ∙ a .count i h k;
-        bits = λ k h d p few. rw (stop-part m (a .ready) (slotAt k) 8 (omega arith)) (a .bits k h d p few);
-      }
+  unfolding stopIn
+  agrees-stop b m a = agrees-running t c b m a true

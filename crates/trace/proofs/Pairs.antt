@@ -17,16 +17,17 @@ use Rattle.table.specs.declared.Verdict.the-variants.{Accepted}
 use Rattle.table.specs.Records.{ipduRecord}
 use Rattle.table.specs.Check.{check}
 use Rattle.table.proofs.Accepted.{accepted-right}
-use Rattle.state.specs.Layout.{memorySize, slotAt, objectState, withObjectState}
+use Rattle.state.specs.Layout.{memorySize, slotAt, objectState, withObjectState, areaSize}
 use Rattle.state.specs.Updates.{counted}
 use Rattle.layer.specs.declared.Admission.the-variants.{Admitted, Refused}
-use Rattle.layer.specs.declared.Answer.{Answer}
-use Rattle.layer.specs.declared.Answer.the-variants.{WrongMemory, Stopped}
-use Rattle.layer.specs.Answers.{Outcome, numberOf, valueOf, front, admission, follow}
+use Rattle.calls.specs.declared.Answer.{Answer}
+use Rattle.calls.specs.declared.Answer.the-variants.{WrongMemory, Stopped}
+use Rattle.calls.specs.Answers.{Outcome, numberOf, valueOf}
+use Rattle.layer.specs.Admission.{workingMemory, admission, ifAdmitted}
 use Rattle.layer.specs.Start.{started, startCall}
-use Rattle.layer.specs.Calls.{isObject, stopIn, sendIn, initialiseIn, receiveIn, statusIn, marksIn, clearMarksIn, periodicIn, indicationIn, confirmIn}
-use Rattle.layer.specs.Tick.{tickIn}
-use Rattle.layer.specs.Step.{Call, start, stop, send, initialise, receive, status, marks, clearMarks, startPeriodic, stopPeriodic, indication, confirm, tick, areaSize, step}
+use Rattle.calls.specs.Calls.{isObject, stopIn, sendIn, initialiseIn, receiveIn, statusIn, marksIn, clearMarksIn, periodicIn, indicationIn, confirmIn}
+use Rattle.calls.specs.Tick.{tickIn}
+use Rattle.layer.specs.Step.{Call, start, stop, send, initialise, receive, status, marks, clearMarks, startPeriodic, stopPeriodic, indication, confirm, tick, step}
 use Rattle.trace.specs.Book.{Book, keeps, advance}
 use Rattle.trace.specs.Demand3.{Typed, AllTyped, wordOf, inside, Alike, same, areas, ticks, dropped, AllAlike, SameAnswer, AllSame}
 use Rattle.trace.proofs.Agree.{Agrees}
@@ -36,39 +37,39 @@ use Rattle.trace.proofs.Others.{agrees-initialise, agrees-stop, unseen-
 use Rattle.trace.proofs.Hands.{Hands}
 use Rattle.trace.proofs.Sending.{send-area, send-dropped}
 use Rattle.trace.proofs.Ticked.{unseen-tick, tick-area}
-use Rattle.trace.proofs.Begin.{start-ready}
+use Rattle.layer.proofs.Fresh.{started-length}
 use Rattle.trace.proofs.Lists.{front-of, Follows, admission-is, step-follows}
 use Rattle.trace.proofs.Calls.{step-hands}
 
 -- the same answer, and memories alike in the first 8,192 bytes
 pub record SameOutcome (o p : Outcome) : Type 0 where
   pub answer : o .answer ≡ p .answer
-  pub memory : front (o .memory) ≡ front (p .memory)
+  pub memory : workingMemory (o .memory) ≡ workingMemory (p .memory)
 
 module _ (t : List ℕ) (c : Counts) (accepted : check t ≡ Accepted c) (bt : Bytes t) where
   -- a start leaves the same, whatever lay in memory before
   pub start-same : (m n : List ℕ) → memorySize ≤ length m → memorySize ≤ length n → SameOutcome (step t start m) (step t start n)
   unfolding step startCall
   start-same m n long far =
-      let size = start-ready t c (accepted-right t c accepted) bt .long in
+      let size = started-length t c (accepted-right t c accepted) in
       rw (accepted, le-leb memorySize (length m) long, le-leb memorySize (length n) far)
       (record { answer = refl; memory = front-of (started t c) m size ∙ sym (front-of (started t c) n size) })
 
-  module _ (b : Book) (m n : List ℕ) (f : Follows t c b m) (g : Follows t c b n) (alike : front m ≡ front n) where
+  module _ (b : Book) (m n : List ℕ) (f : Follows t c b m) (g : Follows t c b n) (alike : workingMemory m ≡ workingMemory n) where
     -- what two calls that go on give
     record Inner (o p : Outcome) : Type 0 where
       answer : o .answer ≡ p .answer
       memory : o .memory ≡ p .memory
       size : length (o .memory) ≡ memorySize
 
-    follow-same : (fits : Bool) (area other : List ℕ) (x y : Counts → List ℕ → Outcome) → (fits ≡ true → Inner (x c (front m)) (y c (front n)))
-        → SameOutcome (follow (admission t m fits) m area x) (follow (admission t n fits) n other y)
+    follow-same : (fits : Bool) (area other : List ℕ) (x y : Counts → List ℕ → Outcome) → (fits ≡ true → Inner (x c (workingMemory m)) (y c (workingMemory n)))
+        → SameOutcome (ifAdmitted (admission t m fits) m area x) (ifAdmitted (admission t n fits) n other y)
     follow-same fits area other x y i =
         rw (admission-is t c accepted bt b m f fits, admission-is t c accepted bt b n g fits) (cases fits (b .stopped) i)
       where
-        cases : (z s : Bool) → (z ≡ true → Inner (x c (front m)) (y c (front n)))
-            → SameOutcome (follow (pick z (pick s (Refused Stopped) (Admitted c)) (Refused WrongMemory)) m area x)
-            (follow (pick z (pick s (Refused Stopped) (Admitted c)) (Refused WrongMemory)) n other y)
+        cases : (z s : Bool) → (z ≡ true → Inner (x c (workingMemory m)) (y c (workingMemory n)))
+            → SameOutcome (ifAdmitted (pick z (pick s (Refused Stopped) (Admitted c)) (Refused WrongMemory)) m area x)
+            (ifAdmitted (pick z (pick s (Refused Stopped) (Admitted c)) (Refused WrongMemory)) n other y)
         cases false s j = record { answer = refl; memory = alike }
         cases true true j = record { answer = refl; memory = alike }
         cases true false j =
@@ -76,14 +77,14 @@ module _ (t : List ℕ) (c : Counts) (accepted : check t ≡ Accepted c) (bt : B
             record {
               answer = k .answer;
               memory =
-                  front-of (x c (front m) .memory) m (k .size)
+                  front-of (x c (workingMemory m) .memory) m (k .size)
                   ∙ k .memory
-                  ∙ sym (front-of (y c (front n) .memory) n (ap length (sym (k .memory)) ∙ k .size));
+                  ∙ sym (front-of (y c (workingMemory n) .memory) n (ap length (sym (k .memory)) ∙ k .size));
             }
 
     -- ---- equal calls
 
-    inner : (x : Counts → List ℕ → Outcome) → length (x c (front m) .memory) ≡ memorySize → Inner (x c (front m)) (x c (front n))
+    inner : (x : Counts → List ℕ → Outcome) → length (x c (workingMemory m) .memory) ≡ memorySize → Inner (x c (workingMemory m)) (x c (workingMemory n))
     inner x size =
         record {
           answer = ap (λ (l : List ℕ). x c l .answer) alike;
@@ -91,28 +92,28 @@ module _ (t : List ℕ) (c : Counts) (accepted : check t ≡ Accepted c) (bt : B
           size = size;
         }
 
-    one : (x : Counts → List ℕ → Outcome) → length (x c (front m) .memory) ≡ memorySize → SameOutcome (follow (admission t m true) m [] x) (follow (admission t n true) n [] x)
+    one : (x : Counts → List ℕ → Outcome) → length (x c (workingMemory m) .memory) ≡ memorySize → SameOutcome (ifAdmitted (admission t m true) m [] x) (ifAdmitted (admission t n true) n [] x)
     one x size = follow-same true [] [] x x (λ e. inner x size)
 
     equal-same : (call : Call) → Typed call → SameOutcome (step t call m) (step t call n)
     unfolding step
     equal-same start y = start-same m n (f .long) (g .long)
-    equal-same stop y = one (λ d. stopIn) (agrees-stop t c b (front m) (f .agrees) .ready .long)
+    equal-same stop y = one (λ d. stopIn) (agrees-stop t c b (workingMemory m) (f .agrees) .ready .long)
     equal-same (send i v area) y =
         follow-same (leb areaSize (length area)) area area (λ d. sendIn t d i v area) (λ d. sendIn t d i v area)
-        (λ e. inner (λ d. sendIn t d i v area) (agrees-send t c b (front m) (f .agrees) i v y area .ready .long))
-    equal-same (initialise i v) y = one (λ d. initialiseIn t d i v) (agrees-initialise t c b (front m) (f .agrees) i v y .ready .long)
-    equal-same (receive i) y = one (λ d. receiveIn t d i) (unseen-receive t c (front m) (f .agrees .ready) i .ready .long)
-    equal-same (status i) y = one (λ d. statusIn t d i) (unseen-status t c (front m) (f .agrees .ready) i .ready .long)
-    equal-same (marks i) y = one (λ d. marksIn d i) (unseen-marks t c (front m) (f .agrees .ready) i .ready .long)
-    equal-same (clearMarks i) y = one (λ d. clearMarksIn d i) (unseen-clear t c (front m) (f .agrees .ready) i .ready .long)
-    equal-same startPeriodic y = one (λ d. periodicIn true t d) (unseen-periodic t c (front m) (f .agrees .ready) true .ready .long)
-    equal-same stopPeriodic y = one (λ d. periodicIn false t d) (unseen-periodic t c (front m) (f .agrees .ready) false .ready .long)
-    equal-same (indication k good h) y = one (λ d. indicationIn t d k good h) (unseen-indication t c (front m) (f .agrees .ready) k good h y .ready .long)
-    equal-same (confirm k good) y = one (λ d. confirmIn t d k good) (unseen-confirm t c (front m) (f .agrees .ready) k good .ready .long)
+        (λ e. inner (λ d. sendIn t d i v area) (agrees-send t c b (workingMemory m) (f .agrees) i v y area .ready .long))
+    equal-same (initialise i v) y = one (λ d. initialiseIn t d i v) (agrees-initialise t c b (workingMemory m) (f .agrees) i v y .ready .long)
+    equal-same (receive i) y = one (λ d. receiveIn t d i) (unseen-receive t c (workingMemory m) (f .agrees .ready) i .ready .long)
+    equal-same (status i) y = one (λ d. statusIn t d i) (unseen-status t c (workingMemory m) (f .agrees .ready) i .ready .long)
+    equal-same (marks i) y = one (λ d. marksIn d i) (unseen-marks t c (workingMemory m) (f .agrees .ready) i .ready .long)
+    equal-same (clearMarks i) y = one (λ d. clearMarksIn d i) (unseen-clear t c (workingMemory m) (f .agrees .ready) i .ready .long)
+    equal-same startPeriodic y = one (λ d. periodicIn true t d) (unseen-periodic t c (workingMemory m) (f .agrees .ready) true .ready .long)
+    equal-same stopPeriodic y = one (λ d. periodicIn false t d) (unseen-periodic t c (workingMemory m) (f .agrees .ready) false .ready .long)
+    equal-same (indication k good h) y = one (λ d. indicationIn t d k good h) (unseen-indication t c (workingMemory m) (f .agrees .ready) k good h y .ready .long)
+    equal-same (confirm k good) y = one (λ d. confirmIn t d k good) (unseen-confirm t c (workingMemory m) (f .agrees .ready) k good .ready .long)
     equal-same (tick area) y =
         follow-same (leb areaSize (length area)) area area (λ d. tickIn t d area) (λ d. tickIn t d area)
-        (λ e. inner (λ d. tickIn t d area) (unseen-tick t c area (front m) (f .agrees .ready) (leb-true areaSize (length area) e) .ready .long))
+        (λ e. inner (λ d. tickIn t d area) (unseen-tick t c area (workingMemory m) (f .agrees .ready) (leb-true areaSize (length area) e) .ready .long))
 
     -- ---- another area
 
@@ -122,11 +123,11 @@ module _ (t : List ℕ) (c : Counts) (accepted : check t ≡ Accepted c) (bt : B
         rw (sym e)
         (follow-same (leb areaSize (length area)) area other (λ d. sendIn t d i v area) (λ d. sendIn t d i v other)
         (λ z.
-        let x = send-area t c i v area other (front m) in
+        let x = send-area t c i v area other (workingMemory m) in
         record {
           answer = x .0 ∙ ap (λ (l : List ℕ). sendIn t c i v other l .answer) alike;
           memory = x .1 ∙ ap (λ (l : List ℕ). sendIn t c i v other l .memory) alike;
-          size = agrees-send t c b (front m) (f .agrees) i v small area .ready .long;
+          size = agrees-send t c b (workingMemory m) (f .agrees) i v small area .ready .long;
         }))
 
     ticks-same : (area other : List ℕ) → length area ≡ length other → SameOutcome (step t (tick area) m) (step t (tick other) n)
@@ -135,27 +136,27 @@ module _ (t : List ℕ) (c : Counts) (accepted : check t ≡ Accepted c) (bt : B
         rw (sym e)
         (follow-same (leb areaSize (length area)) area other (λ d. tickIn t d area) (λ d. tickIn t d other)
         (λ z.
-        let x = tick-area t c area other (front m) in
+        let x = tick-area t c area other (workingMemory m) in
         record {
           answer = x .0 ∙ ap (λ (l : List ℕ). tickIn t c other l .answer) alike;
           memory = x .1 ∙ ap (λ (l : List ℕ). tickIn t c other l .memory) alike;
-          size = unseen-tick t c area (front m) (f .agrees .ready) (leb-true areaSize (length area) z) .ready .long;
+          size = unseen-tick t c area (workingMemory m) (f .agrees .ready) (leb-true areaSize (length area) z) .ready .long;
         }))
 
     -- ---- dropped values
 
     module _ (i v w : ℕ) (small : v < 2 ^ 32) (little : w < 2 ^ 32) (area other : List ℕ) (dropv : keeps t c b i v ≡ false) (dropw : keeps t c b i w ≡ false)
         (none : inside t c i ≡ false) where
-      dropped-inner : Inner (sendIn t c i v area (front m)) (sendIn t c i w other (front n))
+      dropped-inner : Inner (sendIn t c i v area (workingMemory m)) (sendIn t c i w other (workingMemory n))
       dropped-inner = ⊎-elim there missing (true-or-false (isObject t c 1 i))
         where
-          size : length (sendIn t c i v area (front m) .memory) ≡ memorySize
-          size = agrees-send t c b (front m) (f .agrees) i v small area .ready .long
+          size : length (sendIn t c i v area (workingMemory m) .memory) ≡ memorySize
+          size = agrees-send t c b (workingMemory m) (f .agrees) i v small area .ready .long
 
-          there : isObject t c 1 i ≡ true → Inner (sendIn t c i v area (front m)) (sendIn t c i w other (front n))
+          there : isObject t c 1 i ≡ true → Inner (sendIn t c i v area (workingMemory m)) (sendIn t c i w other (workingMemory n))
           there is =
-              let x = send-dropped t c b (front m) (f .agrees) i v small area is dropv none in
-              let y = send-dropped t c b (front n) (g .agrees) i w little other is dropw none in
+              let x = send-dropped t c b (workingMemory m) (f .agrees) i v small area is dropv none in
+              let y = send-dropped t c b (workingMemory n) (g .agrees) i w little other is dropw none in
               record {
                 answer = ap (λ (o : Outcome). o .answer) x ∙ sym (ap (λ (o : Outcome). o .answer) y);
                 memory =
@@ -165,7 +166,7 @@ module _ (t : List ℕ) (c : Counts) (accepted : check t ≡ Accepted c) (bt : B
                 size = size;
               }
 
-          missing : isObject t c 1 i ≡ false → Inner (sendIn t c i v area (front m)) (sendIn t c i w other (front n))
+          missing : isObject t c 1 i ≡ false → Inner (sendIn t c i v area (workingMemory m)) (sendIn t c i w other (workingMemory n))
           missing out = record { answer = unfold sendIn in rw out; memory = unfold sendIn in rw out alike; size = size }
 
       dropped-same : length area ≡ length other → SameOutcome (step t (send i v area) m) (step t (send i w other) n)
@@ -219,7 +220,7 @@ module _ (t : List ℕ) (c : Counts) (accepted : check t ≡ Accepted c) (bt : B
               ∙ sym (hy .slot k (rw (s .word) at e));
         }
 
-  pub lists-same : (xs ys : List Call) → AllTyped xs → AllTyped ys → (b : Book) (m n : List ℕ) → Follows t c b m → Follows t c b n → front m ≡ front n
+  pub lists-same : (xs ys : List Call) → AllTyped xs → AllTyped ys → (b : Book) (m n : List ℕ) → Follows t c b m → Follows t c b n → workingMemory m ≡ workingMemory n
       → AllAlike t c b b xs ys → AllSame t xs ys m n
   lists-same [] [] p q b m n f g e a = tt
   lists-same [] (y ∷ ys) p q b m n f g e a = a

@@ -14,18 +14,19 @@ use Rattle.table.specs.declared.Verdict.{Verdict}
 use Rattle.table.specs.declared.Verdict.the-variants.{Accepted, WrongHeader, WrongIpdu, WrongObject}
 use Rattle.table.specs.Check.{check}
 use Rattle.table.specs.Records.{ipduRecord, objectRecord}
-use Rattle.state.specs.Layout.{memorySize, objectState, ipduState}
-use Rattle.message.specs.Objects.{object, lets, oldest, take}
+use Rattle.state.specs.Layout.{memorySize, objectState, ipduState, areaSize}
+use Rattle.message.specs.Objects.{object, lets, oldest, dequeue}
 use Rattle.message.specs.Delivery.{deliverInside}
 use Rattle.layer.specs.declared.Admission.{Admission}
 use Rattle.layer.specs.declared.Admission.the-variants.{Admitted, Refused}
-use Rattle.layer.specs.declared.Answer.{Answer}
-use Rattle.layer.specs.declared.Answer.the-variants.{Done, WrongId, WrongLength, Limit, NoMessage, NotRequested}
-use Rattle.layer.specs.Answers.{Outcome, outcome, numberOf, front, admission, follow}
+use Rattle.calls.specs.declared.Answer.{Answer}
+use Rattle.calls.specs.declared.Answer.the-variants.{Done, WrongId, WrongLength, Limit, NoMessage, NotRequested}
+use Rattle.calls.specs.Answers.{Outcome, outcome, numberOf}
+use Rattle.layer.specs.Admission.{workingMemory, admission, ifAdmitted}
 use Rattle.layer.specs.Start.{startOf, startCall}
-use Rattle.layer.specs.Calls.{isObject, isIpdu, stopIn, wants, request, sendOf, sendIn, initialiseIn, receiveIn, statusIn, marksIn, clearMarksIn, periodicIn, indicationIn, confirmIn}
-use Rattle.layer.specs.Tick.{tickIn}
-use Rattle.layer.specs.Step.{Call, start, stop, send, initialise, receive, status, marks, clearMarks, startPeriodic, stopPeriodic, indication, confirm, tick, areaSize, step}
+use Rattle.calls.specs.Calls.{isObject, isIpdu, stopIn, wants, request, sendOf, sendIn, initialiseIn, receiveIn, statusIn, marksIn, clearMarksIn, periodicIn, indicationIn, confirmIn}
+use Rattle.calls.specs.Tick.{tickIn}
+use Rattle.layer.specs.Step.{Call, start, stop, send, initialise, receive, status, marks, clearMarks, startPeriodic, stopPeriodic, indication, confirm, tick, step}
 
 -- the area that a call is lent
 abbrev pub areaOf : Call → List ℕ
@@ -85,7 +86,7 @@ receive-leaves t c i m =
     (either (eqb (objectRecord t (c .ipdus) i .depth) 0) m [] _ _ (same (Done _) m [])
     (either (eqb (objectState m i .count) 0) m [] _ _ (same NoMessage m [])
     (limited-leaves (eqb (objectState m i .overflow) 0) (oldest (objectRecord t (c .ipdus) i .depth) i m) m
-    (take (objectRecord t (c .ipdus) i .depth) i m))))
+    (dequeue (objectRecord t (c .ipdus) i .depth) i m))))
     (same WrongId m [])
 
 indication-leaves : (t : List ℕ) (c : Counts) (k : ℕ) (good : Bool) (bytes m : List ℕ) → Leaves m [] (indicationIn t c k good bytes m)
@@ -105,8 +106,8 @@ confirm-leaves t c k good m =
 
 -- ---- any call
 
-follow-leaves : (a : Admission) (m area : List ℕ) (f : Counts → List ℕ → Outcome) → ((c : Counts) → Leaves (front m) area (f c (front m)))
-    → Leaves m area (follow a m area f)
+follow-leaves : (a : Admission) (m area : List ℕ) (f : Counts → List ℕ → Outcome) → ((c : Counts) → Leaves (workingMemory m) area (f c (workingMemory m)))
+    → Leaves m area (ifAdmitted a m area f)
 follow-leaves (Admitted c) m area f p done limit =
     let u = p c done limit in
     record { memory = ap (λ (n : List ℕ). n ++ drop memorySize m) (u .memory) ∙ take-append-drop memorySize m; area = u .area }
@@ -122,35 +123,35 @@ pub refused-leaves : (t : List ℕ) (call : Call) (m : List ℕ) → (numberOf (
     → (numberOf (step t call m .answer) ≡ 3 → ⊥) → Unchanged m (areaOf call) (step t call m)
 unfolding step startCall stopIn initialiseIn marksIn clearMarksIn periodicIn statusIn tickIn
 refused-leaves t start m = start-leaves (check t) t m
-refused-leaves t stop m = follow-leaves (admission t m true) m [] _ (λ c. did 0 (front m) [] _ [])
-refused-leaves t (send i v area) m = follow-leaves (admission t m (leb areaSize (length area))) m area _ (λ c. send-leaves t c i v area (front m))
+refused-leaves t stop m = follow-leaves (admission t m true) m [] _ (λ c. did 0 (workingMemory m) [] _ [])
+refused-leaves t (send i v area) m = follow-leaves (admission t m (leb areaSize (length area))) m area _ (λ c. send-leaves t c i v area (workingMemory m))
 refused-leaves t (initialise i v) m =
-    follow-leaves (admission t m true) m [] _ (λ c. either (ltb i (c .objects)) (front m) [] _ _ (did 0 (front m) [] _ []) (same WrongId (front m) []))
-refused-leaves t (receive i) m = follow-leaves (admission t m true) m [] _ (λ c. receive-leaves t c i (front m))
+    follow-leaves (admission t m true) m [] _ (λ c. either (ltb i (c .objects)) (workingMemory m) [] _ _ (did 0 (workingMemory m) [] _ []) (same WrongId (workingMemory m) []))
+refused-leaves t (receive i) m = follow-leaves (admission t m true) m [] _ (λ c. receive-leaves t c i (workingMemory m))
 refused-leaves t (status i) m =
     follow-leaves (admission t m true) m [] _
     (λ c.
-    either (isObject t c 2 i && not (eqb (objectRecord t (c .ipdus) i .depth) 0)) (front m) [] _ _ (same _ (front m) []) (same WrongId (front m) []))
+    either (isObject t c 2 i && not (eqb (objectRecord t (c .ipdus) i .depth) 0)) (workingMemory m) [] _ _ (same _ (workingMemory m) []) (same WrongId (workingMemory m) []))
 refused-leaves t (marks i) m =
-    follow-leaves (admission t m true) m [] _ (λ c. either (ltb i (c .objects)) (front m) [] _ _ (same _ (front m) []) (same WrongId (front m) []))
+    follow-leaves (admission t m true) m [] _ (λ c. either (ltb i (c .objects)) (workingMemory m) [] _ _ (same _ (workingMemory m) []) (same WrongId (workingMemory m) []))
 refused-leaves t (clearMarks i) m =
-    follow-leaves (admission t m true) m [] _ (λ c. either (ltb i (c .objects)) (front m) [] _ _ (did 0 (front m) [] _ []) (same WrongId (front m) []))
-refused-leaves t startPeriodic m = follow-leaves (admission t m true) m [] _ (λ c. did 0 (front m) [] _ [])
-refused-leaves t stopPeriodic m = follow-leaves (admission t m true) m [] _ (λ c. did 0 (front m) [] _ [])
-refused-leaves t (indication k good bytes) m = follow-leaves (admission t m true) m [] _ (λ c. indication-leaves t c k good bytes (front m))
-refused-leaves t (tick area) m = follow-leaves (admission t m (leb areaSize (length area))) m area _ (λ c. did _ (front m) area _ _)
-refused-leaves t (confirm k good) m = follow-leaves (admission t m true) m [] _ (λ c. confirm-leaves t c k good (front m))
+    follow-leaves (admission t m true) m [] _ (λ c. either (ltb i (c .objects)) (workingMemory m) [] _ _ (did 0 (workingMemory m) [] _ []) (same WrongId (workingMemory m) []))
+refused-leaves t startPeriodic m = follow-leaves (admission t m true) m [] _ (λ c. did 0 (workingMemory m) [] _ [])
+refused-leaves t stopPeriodic m = follow-leaves (admission t m true) m [] _ (λ c. did 0 (workingMemory m) [] _ [])
+refused-leaves t (indication k good bytes) m = follow-leaves (admission t m true) m [] _ (λ c. indication-leaves t c k good bytes (workingMemory m))
+refused-leaves t (tick area) m = follow-leaves (admission t m (leb areaSize (length area))) m area _ (λ c. did _ (workingMemory m) area _ _)
+refused-leaves t (confirm k good) m = follow-leaves (admission t m true) m [] _ (λ c. confirm-leaves t c k good (workingMemory m))
 
 -- a status that answers 3 changes nothing either
 module _ (t m : List ℕ) (i : ℕ) where
-  reads-only : (a : Admission) (f : Counts → List ℕ → Outcome) → ((c : Counts) → Unchanged (front m) [] (f c (front m)))
-      → Unchanged m [] (follow a m [] f)
+  reads-only : (a : Admission) (f : Counts → List ℕ → Outcome) → ((c : Counts) → Unchanged (workingMemory m) [] (f c (workingMemory m)))
+      → Unchanged m [] (ifAdmitted a m [] f)
   reads-only (Admitted c) f p =
       let u = p c in
       record { memory = ap (λ (n : List ℕ). n ++ drop memorySize m) (u .memory) ∙ take-append-drop memorySize m; area = u .area }
   reads-only (Refused a) f p = record { memory = refl; area = refl }
 
-  unread : (b : Bool) (x y : Answer) → Unchanged (front m) [] (pick b (outcome x (front m) []) (outcome y (front m) []))
+  unread : (b : Bool) (x y : Answer) → Unchanged (workingMemory m) [] (pick b (outcome x (workingMemory m) []) (outcome y (workingMemory m) []))
   unread true x y = record { memory = refl; area = refl }
   unread false x y = record { memory = refl; area = refl }
 

@@ -9,22 +9,22 @@ use native.Mathlib.Omega.{arith}
 use lib.Dec.{eqb}
 use lib.ListN.{length, take, replicate, length-append, length-replicate}
 use lib.Seq.{take-append-seam}
-use Rattle.memory.specs.Bytes.{value, part, get, replaced}
+use Rattle.memory.specs.Bytes.{value, part, numberAt, replaced}
 use Rattle.memory.proofs.Laws.{part-apart, part-replaced, part-length, part-front, replaced-length}
 use Rattle.memory.proofs.Tests.{true-or-false}
 use Rattle.bits.specs.Bits.{packed}
 use Rattle.table.specs.declared.Object.{Object}
 use Rattle.table.specs.declared.Ipdu.{Ipdu}
-use Rattle.table.specs.Records.{none}
+use Rattle.table.specs.Records.{absent}
 use Rattle.state.specs.declared.IpduState.{IpduState}
-use Rattle.state.specs.Layout.{stoppedAt, slotAt, ipduRow, ipduState, objectRow, objectState}
+use Rattle.state.specs.Layout.{runningAt, slotAt, ipduRow, ipduState, objectRow, objectState}
 use Rattle.state.specs.Updates.{withWanted}
 use Rattle.state.proofs.Laws.{ipdu-keeps-objects, object-read}
 use Rattle.message.specs.Objects.{Placed, startBit, pack}
 use Rattle.message.proofs.Kept.{pack-room, packed-slot-length}
 use Rattle.transmission.specs.Requests.{ipdu, offered, handed}
-use Rattle.layer.specs.Calls.{HasIpdu, wants, request}
-use Rattle.layer.proofs.Laws.{wants-some}
+use Rattle.calls.specs.Calls.{HasIpdu, wants, request}
+use Rattle.calls.proofs.Records.{wants-some}
 
 -- ---- packing
 
@@ -34,8 +34,8 @@ module _ (o : Object) (v : ℕ) (m : List ℕ) (placed : Placed o m) where
   unfolding pack
   pack-row j =
       ⊎-elim
-      (λ (e : eqb (o .ipdu .0) none ≡ true). rw e)
-      (λ (e : eqb (o .ipdu .0) none ≡ false).
+      (λ (e : eqb (o .ipdu .0) absent ≡ true). rw e)
+      (λ (e : eqb (o .ipdu .0) absent ≡ false).
       let low = placed .ipdu e in
       let size = packed-slot-length o v m placed e in
       rw e
@@ -44,23 +44,23 @@ module _ (o : Object) (v : ℕ) (m : List ℕ) (placed : Placed o m) where
       (λ p w b.
       part-apart (slotAt (o .ipdu .0)) (packed (o .order) (startBit o) (o .size .0) v (part (slotAt (o .ipdu .0)) 8 m)) m (objectRow j + p) w
       (omega (arith, size, pack-room o v m placed e)) (inr (omega (arith, size, low))))))
-      (true-or-false (eqb (o .ipdu .0) none))
+      (true-or-false (eqb (o .ipdu .0) absent))
 
   -- packing leaves the byte of a stopped layer
-  pub pack-front : stoppedAt (pack o v m) ≡ stoppedAt m
-  unfolding pack stoppedAt get
+  pub pack-front : runningAt (pack o v m) ≡ runningAt m
+  unfolding pack runningAt numberAt
   pack-front =
       ⊎-elim
-      (λ (e : eqb (o .ipdu .0) none ≡ true). rw e)
-      (λ (e : eqb (o .ipdu .0) none ≡ false).
+      (λ (e : eqb (o .ipdu .0) absent ≡ true). rw e)
+      (λ (e : eqb (o .ipdu .0) absent ≡ false).
       rw e
       (ap value
       (part-apart (slotAt (o .ipdu .0)) (packed (o .order) (startBit o) (o .size .0) v (part (slotAt (o .ipdu .0)) 8 m)) m 0 1
       (omega (arith, packed-slot-length o v m placed e, pack-room o v m placed e)) (inl (omega arith)))))
-      (true-or-false (eqb (o .ipdu .0) none))
+      (true-or-false (eqb (o .ipdu .0) absent))
 
   -- the slot holds what was packed
-  pub pack-holds : eqb (o .ipdu .0) none ≡ false
+  pub pack-holds : eqb (o .ipdu .0) absent ≡ false
       → part (slotAt (o .ipdu .0)) 8 (pack o v m) ≡ packed (o .order) (startBit o) (o .size .0) v (part (slotAt (o .ipdu .0)) 8 m)
   unfolding pack
   pack-holds e =
@@ -78,7 +78,7 @@ pub request-row : (t : List ℕ) (o : Object) (area m : List ℕ) → Placed o m
 unfolding request
 request-row t o area m placed e j = rw e (ipdu-keeps-objects m (o .ipdu .0) (offered (ipdu t (o .ipdu .0)) (withWanted 1 (ipduState m (o .ipdu .0)))) room low j)
   where
-    some : eqb (o .ipdu .0) none ≡ false
+    some : eqb (o .ipdu .0) absent ≡ false
     some = wants-some t o e
 
     low : o .ipdu .0 < 32

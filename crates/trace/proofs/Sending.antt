@@ -20,18 +20,17 @@ use Rattle.table.specs.Records.{objectRecord}
 use Rattle.table.specs.Decode.{objectOf, Right}
 use Rattle.table.proofs.Accepted.{Usable, usable}
 use Rattle.state.specs.declared.ObjectState.{ObjectState}
-use Rattle.state.specs.Layout.{objectState, withObjectState}
+use Rattle.state.specs.Layout.{objectState, withObjectState, areaSize}
 use Rattle.state.specs.Updates.{counted}
 use Rattle.state.specs.Ranges.{Ready}
 use Rattle.message.specs.Objects.{object, lets, deliver, pack}
 use Rattle.message.specs.Delivery.{insideTurn, deliverInside}
 use Rattle.message.proofs.Kept.{ready-pack}
 use Rattle.transmission.specs.Requests.{ipdu}
-use Rattle.layer.specs.declared.Answer.the-variants.{Done, WrongId}
-use Rattle.layer.specs.Answers.{Outcome, outcome, valueOf}
-use Rattle.layer.specs.Calls.{isObject, wants, request, sendOf, sendIn}
-use Rattle.layer.specs.Step.{areaSize}
-use Rattle.layer.proofs.Laws.{object-there, wants-some}
+use Rattle.calls.specs.declared.Answer.the-variants.{Done, WrongId}
+use Rattle.calls.specs.Answers.{Outcome, outcome, valueOf}
+use Rattle.calls.specs.Calls.{isObject, wants, request, sendOf, sendIn}
+use Rattle.calls.proofs.Records.{object-there, wants-some}
 use Rattle.trace.specs.Book.{Book, keeps}
 use Rattle.trace.specs.Demand3.{names, inside}
 use Rattle.trace.proofs.Frames.{judge, after, after-ready, sent-as}

@@ -12,19 +12,18 @@ use Rattle.table.specs.declared.Direction.{Direction}
 use Rattle.table.specs.declared.Direction.the-variants.{Send, Receive}
 use Rattle.table.specs.declared.Ipdu.{Ipdu}
 use Rattle.state.specs.declared.IpduState.{IpduState}
-use Rattle.state.specs.Layout.{ipduState}
+use Rattle.state.specs.Layout.{ipduState, areaSize}
 use Rattle.state.specs.Ranges.{Ready}
 use Rattle.message.specs.Delivery.{markObjects}
 use Rattle.transmission.specs.Requests.{ipdu, offered, handed}
 use Rattle.transmission.specs.Ticks.{delayed, expires, aged, countedDown, late, watched}
 use Rattle.transmission.proofs.Kept.{SendKept, kept-offered, ready-send-kept, ReceiveKept, ready-receive, ready-receive-kept}
 use Rattle.transmission.proofs.Ticked.{kept-delayed, kept-aged, kept-counted, kept-watched}
-use Rattle.layer.specs.declared.Answer.the-variants.{Done}
-use Rattle.layer.specs.Answers.{Outcome, valueOf}
-use Rattle.layer.specs.Tick.{Ticked, sendTick, receiveTick, tickAs, tickIpdu, tickTurn, ticks, tickIn}
-use Rattle.layer.specs.Step.{areaSize}
-use Rattle.layer.proofs.Laws.{sends-one}
-use Rattle.layer.proofs.Ticks.{tick-word, word-more}
+use Rattle.calls.specs.declared.Answer.the-variants.{Done}
+use Rattle.calls.specs.Answers.{Outcome, valueOf}
+use Rattle.calls.specs.Tick.{Ticked, sendTick, receiveTick, tickAs, tickIpdu, tickTurn, ticks, tickIn}
+use Rattle.calls.proofs.Records.{sends-one}
+use Rattle.calls.proofs.Ticks.{tick-word, word-more}
 use Rattle.trace.specs.Demand3.{names}
 use Rattle.trace.proofs.Agree.{Same}
 use Rattle.trace.proofs.Unseen.{Unseen, unseen-pick, unseen-refl, unseen-then, unseen-mark, unseen-ipdu, unseen-send}

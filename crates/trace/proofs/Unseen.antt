@@ -15,7 +15,7 @@ use Rattle.memory.proofs.Search.{picked, fold-keeps}
 use Rattle.memory.proofs.Tests.{and-split, or-cases}
 use Rattle.table.specs.declared.Counts.{Counts}
 use Rattle.table.specs.declared.ObjectRecord.{ObjectRecord}
-use Rattle.table.specs.Records.{none, ipduRecord, objectRecord}
+use Rattle.table.specs.Records.{absent, ipduRecord, objectRecord}
 use Rattle.table.specs.Rules.{references, sendObject, receiveObject}
 use Rattle.table.specs.Check.{depths}
 use Rattle.table.specs.Decode.{objectOf, Right}
@@ -34,9 +34,9 @@ use Rattle.message.proofs.Kept.{kept-marked, kept-delivered, ready-held, ready-
 use Rattle.state.specs.Updates.{withWanted}
 use Rattle.transmission.specs.Requests.{ipdu, offered, hasPeriod, periodSet, periodTurn, setPeriods}
 use Rattle.transmission.proofs.Kept.{SendKept, kept-wanted, kept-offered, ready-send, ready-send-kept, ready-period-turn}
-use Rattle.layer.specs.Answers.{Outcome}
-use Rattle.layer.specs.Calls.{isObject, wants, request}
-use Rattle.layer.proofs.Laws.{object-there, object-kind, ipdu-sends, wants-some}
+use Rattle.calls.specs.Answers.{Outcome}
+use Rattle.calls.specs.Calls.{isObject, wants, request}
+use Rattle.calls.proofs.Records.{object-there, object-kind, ipdu-sends, wants-some}
 use Rattle.trace.proofs.Agree.{Same, same-refl, same-trans, same-object, same-ipdu, same-queue}
 
 -- ---- a send object has no sending object, and an object that has one is received
@@ -44,13 +44,13 @@ use Rattle.trace.proofs.Agree.{Same, same-refl, same-trans, same-object
 send-sender : (r : ObjectRecord) → sendObject r ≡ true → r .sender ≡ 255
 send-sender r e =
     eqb-true (r .sender) 255
-    (and-split (eqb (r .kind) 1) (eqb (r .sender) none) (and-split (eqb (r .kind) 1 && eqb (r .sender) none) (eqb (r .depth) 0) e .0) .1)
+    (and-split (eqb (r .kind) 1) (eqb (r .sender) absent) (and-split (eqb (r .kind) 1 && eqb (r .sender) absent) (eqb (r .depth) 0) e .0) .1)
 
 receive-kind : (r : ObjectRecord) → receiveObject r ≡ true → r .kind ≡ 2
 receive-kind r e =
     eqb-true (r .kind) 2
     (and-split (eqb (r .kind) 2) (eqb (r .transfer) 0)
-    (and-split (eqb (r .kind) 2 && eqb (r .transfer) 0) (eqb (r .ipdu) none || eqb (r .sender) none) e .0) .0)
+    (and-split (eqb (r .kind) 2 && eqb (r .transfer) 0) (eqb (r .ipdu) absent || eqb (r .sender) absent) e .0) .0)
 
 module _ (t : List ℕ) (c : Counts) (right : Right t c) (i : ℕ) (h : i < c .objects) where
   kinds : (sendObject (objectRecord t (c .ipdus) i) ≡ true) ⊎ (receiveObject (objectRecord t (c .ipdus) i) ≡ true)
@@ -152,8 +152,8 @@ module _ (t : List ℕ) (c : Counts) where
     where
       received : (j : ℕ) → j < c .objects → (l : List ℕ) → Ready t c l → objectRecord t (c .ipdus) j .ipdu ≡ k → objectRecord t (c .ipdus) j .kind ≡ 1 → ⊥
       received j b l r e one =
-          let some : eqb (objectRecord t (c .ipdus) j .ipdu) none ≡ false =
-          ne-eqb (objectRecord t (c .ipdus) j .ipdu) none (λ z. absurd (omega (arith, z, e, h, r .right .shape .ipdus))) in
+          let some : eqb (objectRecord t (c .ipdus) j .ipdu) absent ≡ false =
+          ne-eqb (objectRecord t (c .ipdus) j .ipdu) absent (λ z. absurd (omega (arith, z, e, h, r .right .shape .ipdus))) in
           let direction : ipduRecord t (objectRecord t (c .ipdus) j .ipdu) .direction ≡ objectRecord t (c .ipdus) j .kind = usable t c (r .right) j b .ipdu some .1 in
           let there : ipduRecord t (objectRecord t (c .ipdus) j .ipdu) .direction ≡ 2 = ap (λ (n : ℕ). ipduRecord t n .direction) e ∙ two in
           omega (arith, direction, there, one)

@@ -12,7 +12,8 @@ use Rattle.table.specs.declared.Counts.{Counts}
 use Rattle.table.specs.declared.ObjectRecord.{ObjectRecord}
 use Rattle.table.specs.Records.{objectRecord}
 use Rattle.table.specs.Rules.{orderOf}
-use Rattle.layer.specs.Step.{Call, start, stop, send, initialise, receive, status, marks, clearMarks, startPeriodic, stopPeriodic, indication, confirm, tick, areaSize}
+use Rattle.layer.specs.Step.{Call, start, stop, send, initialise, receive, status, marks, clearMarks, startPeriodic, stopPeriodic, indication, confirm, tick}
+use Rattle.state.specs.Layout.{areaSize}
 
 -- an entry: a send object and a value that it kept
 pub record Entry : Type 0 where

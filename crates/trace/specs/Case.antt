@@ -10,11 +10,11 @@ use Rattle.memory.specs.Bytes.{bytesOf, part}
 use Rattle.bits.specs.declared.Order.{Order}
 use Rattle.bits.specs.Bits.{room, packed, unpacked}
 use Rattle.table.specs.declared.Verdict.{Verdict}
-use Rattle.table.specs.Records.{total}
+use Rattle.table.specs.Records.{tableLength}
 use Rattle.table.specs.Check.{check}
-use Rattle.state.specs.Layout.{memorySize}
-use Rattle.layer.specs.Answers.{Outcome, numberOf, valueOf}
-use Rattle.layer.specs.Step.{Call, areaSize, run}
+use Rattle.state.specs.Layout.{memorySize, areaSize}
+use Rattle.calls.specs.Answers.{Outcome, numberOf, valueOf}
+use Rattle.layer.specs.Step.{Call, run}
 
 -- a call, the number and value that it answers, and the bytes of some slots of its request area after it
 pub record Line : Type 0 where
@@ -80,7 +80,7 @@ many (r ∷ rs) = suc (many rs)
 
 abbrev pub header : (ipdus objects : ℕ) → List ℕ
 header ipdus objects =
-    bytesOf 2 ipdus ++ bytesOf 2 objects ++ bytesOf 2 16 ++ bytesOf 2 (16 + 16 * ipdus) ++ bytesOf 2 (total ipdus objects) ++ replicate 6 0
+    bytesOf 2 ipdus ++ bytesOf 2 objects ++ bytesOf 2 16 ++ bytesOf 2 (16 + 16 * ipdus) ++ bytesOf 2 (tableLength ipdus objects) ++ replicate 6 0
 
 abbrev pub tableOf : (ipdus objects : List (List ℕ)) → List ℕ
 tableOf ipdus objects = header (many ipdus) (many objects) ++ joined ipdus ++ joined objects

@@ -99,8 +99,8 @@ case11 =
     ∷ line (tick area) 0 1
     ∷ [])
 
-abbrev pub cases : List Case
-cases =
+abbrev pub documentCases : List Case
+documentCases =
     -- 1 to 3
     packs Little 13 12 2748 4 (0x00 ∷ 0x80 ∷ 0x57 ∷ 0x01 ∷ []) 2748
     ∷ packs Big 18 12 2748 4 (0x00 ∷ 0x2A ∷ 0xF0 ∷ 0x00 ∷ []) 2748

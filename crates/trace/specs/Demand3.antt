@@ -7,12 +7,12 @@ use Prim.Native.Nat.{ℕ, _*_, _^_, _<_}
 use lib.Dec.{eqb}
 use lib.ListN.{length}
 use Rattle.memory.specs.Bytes.{Bytes, part}
-use Rattle.memory.specs.Search.{any}
+use Rattle.memory.specs.Search.{anyBelow}
 use Rattle.bits.specs.Bits.{bit, frameBit}
 use Rattle.table.specs.declared.Counts.{Counts}
 use Rattle.table.specs.Records.{counts, ipduRecord, objectRecord}
-use Rattle.layer.specs.declared.Answer.{Answer}
-use Rattle.layer.specs.Answers.{Outcome, numberOf, valueOf}
+use Rattle.calls.specs.declared.Answer.{Answer}
+use Rattle.calls.specs.Answers.{Outcome, numberOf, valueOf}
 use Rattle.layer.specs.Step.{Call, start, stop, send, initialise, receive, status, marks, clearMarks, startPeriodic, stopPeriodic, indication, confirm, tick, step}
 use Rattle.trace.specs.Book.{Book, Fed, fedStart, fedStop, fedSend, fedInitialise, fedOther, fed, unopened, keeps, accepts, advance, bookBit}
 
@@ -92,7 +92,7 @@ AllKept t c b (call ∷ calls) m = CallKept t c b call (step t call m) × AllKep
 
 -- a receiver inside the van: a receive object with that sending object
 abbrev pub inside : List ℕ → Counts → ℕ → Bool
-inside t c i = any (c .objects) (λ j. eqb (objectRecord t (c .ipdus) j .kind) 2 && eqb (objectRecord t (c .ipdus) j .sender) i)
+inside t c i = anyBelow (c .objects) (λ j. eqb (objectRecord t (c .ipdus) j .kind) 2 && eqb (objectRecord t (c .ipdus) j .sender) i)
 
 -- two calls alike in all that the book is fed, but for values that the sending filter drops in both lists, of objects with no
 -- receiver inside

@@ -10,7 +10,7 @@ use borrow.Author.Tests.{leb-true, le-leb, eqb-true}
 use lib.Dec.{leb, eqb}
 use Rattle.memory.specs.Bytes.{Bytes}
 use Rattle.memory.specs.Search.{pick, fold}
-use Rattle.memory.proofs.Laws.{get-lt}
+use Rattle.memory.proofs.Laws.{number-lt}
 use Rattle.memory.proofs.Search.{fold-keeps}
 use Rattle.memory.proofs.Tests.{and-split, or-cases, true-or-false, true-not-false}
 use Rattle.table.specs.declared.Counts.{Counts}
@@ -44,11 +44,11 @@ pub times : (t : List ℕ) (k : ℕ) → Bytes t → Times (ipdu t k)
 unfolding ipduOf ipduRecord
 times t k bs =
     record {
-      period = get-lt 2 _ t bs;
-      offset = get-lt 2 _ t bs;
-      delay = get-lt 2 _ t bs;
-      deadline = get-lt 2 _ t bs;
-      first = get-lt 2 _ t bs;
+      period = number-lt 2 _ t bs;
+      offset = number-lt 2 _ t bs;
+      delay = number-lt 2 _ t bs;
+      deadline = number-lt 2 _ t bs;
+      first = number-lt 2 _ t bs;
     }
 
 -- ---- a send I-PDU

@@ -14,6 +14,3 @@ pub use ticks::delayed;
 pub use ticks::expires;
 pub use ticks::late;
 pub use ticks::watched;
-
-// The bytes of the request area that are used, eight for each I-PDU.
-pub const AREA_SIZE: usize = 256;

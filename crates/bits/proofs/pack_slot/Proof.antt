@@ -3,7 +3,7 @@
 use mathlib.Core.Path.{ap}
 use mathlib.Core.List.{List}
 use Prim.Native.Nat.{ℕ}
-use Rattle.memory.specs.Bytes.{get, part, replaced}
+use Rattle.memory.specs.Bytes.{numberAt, part, replaced}
 use Rattle.memory.proofs.Laws.{part-bytes, part-length}
 use Rattle.bits.proofs.Words.{slot-packed}
 use borrow.Author.Needs.{needs}
@@ -30,7 +30,7 @@ same-length : tie.Need-same-length
 same-length c = search needs
 
 returns : tie.Need-returns
-unfolding get
+unfolding numberAt
 returns c =
     let s = c .before .before .before .before .before .before .before .before .before .before in
     let a = s .args in

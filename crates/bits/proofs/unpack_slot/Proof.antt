@@ -1,6 +1,6 @@
 -- `bits::unpack_slot` meets its contract: `slot-unpacked`, for the word that the callees make.
 -- Assumes nothing.
-use Rattle.memory.specs.Bytes.{get, part}
+use Rattle.memory.specs.Bytes.{numberAt, part}
 use Rattle.memory.proofs.Laws.{part-bytes, part-length}
 use Rattle.bits.proofs.Words.{slot-unpacked}
 use borrow.Author.Needs.{needs}
@@ -18,7 +18,7 @@ field-requires : tie.Need-field-requires
 field-requires c κs = search needs
 
 returns : tie.Need-returns
-unfolding get
+unfolding numberAt
 returns c =
     let s = c .before .before .before .before in
     let a = s .args in

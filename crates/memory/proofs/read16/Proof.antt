@@ -1,6 +1,6 @@
 -- `memory::read16` meets its contract.
 -- Assumes nothing.
-use Rattle.memory.proofs.Laws.{get-two}
+use Rattle.memory.proofs.Laws.{number-two}
 use native.Mathlib.Omega.{arith}
 use borrow.Author.Needs.{needs}
 use Rattle.memory.proofs.read16.Statement.{statement}
@@ -31,7 +31,7 @@ cast-result : tie.Need-cast-result
 cast-result c = search needs
 
 returns : tie.Need-returns
-returns c = omega (arith, get-two (c .before .before .before .before .before .args .at) (c .before .before .before .before .before .args .m .now))
+returns c = omega (arith, number-two (c .before .before .before .before .before .args .at) (c .before .before .before .before .before .args .m .now))
 
 pub read16-spec : {M : Type 1} → statement M
 read16-spec =

@@ -1,6 +1,6 @@
 -- `memory::read32` meets its contract.
 -- Assumes nothing.
-use Rattle.memory.proofs.Laws.{get-four}
+use Rattle.memory.proofs.Laws.{number-four}
 use native.Mathlib.Omega.{arith}
 use borrow.Author.Needs.{needs}
 use Rattle.memory.proofs.read32.Statement.{statement}
@@ -61,7 +61,7 @@ cast-result : tie.Need-cast-result
 cast-result c = search needs
 
 returns : tie.Need-returns
-returns c = omega (arith, get-four (c .before .before .before .before .before .before .before .before .before .args .at) (c .before .before .before .before .before .before .before .before .before .args .m .now))
+returns c = omega (arith, number-four (c .before .before .before .before .before .before .before .before .before .args .at) (c .before .before .before .before .before .before .before .before .before .args .m .now))
 
 pub read32-spec : {M : Type 1} → statement M
 read32-spec =

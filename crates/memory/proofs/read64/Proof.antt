@@ -1,6 +1,6 @@
 -- `memory::read64` meets its contract.
 -- Assumes nothing.
-use Rattle.memory.proofs.Laws.{get-eight}
+use Rattle.memory.proofs.Laws.{number-eight}
 use native.Mathlib.Omega.{arith}
 use borrow.Author.Needs.{needs}
 use Rattle.memory.proofs.read64.Statement.{statement}
@@ -118,7 +118,7 @@ add-result : tie.Need-add-result
 add-result c = search needs
 
 returns : tie.Need-returns
-returns c = omega (arith, get-eight (c .before .before .before .before .before .before .before .before .before .before .before .before .before .before .before .before .before .args .at) (c .before .before .before .before .before .before .before .before .before .before .before .before .before .before .before .before .before .args .m .now))
+returns c = omega (arith, number-eight (c .before .before .before .before .before .before .before .before .before .before .before .before .before .before .before .before .before .args .at) (c .before .before .before .before .before .before .before .before .before .before .before .before .before .before .before .before .before .args .m .now))
 
 pub read64-spec : {M : Type 1} → statement M
 read64-spec =

@@ -1,6 +1,6 @@
 -- `memory::read8` meets its contract.
 -- Assumes nothing.
-use Rattle.memory.proofs.Laws.{get-one}
+use Rattle.memory.proofs.Laws.{number-one}
 use native.Mathlib.Omega.{arith}
 use borrow.Author.Needs.{needs}
 use Rattle.memory.proofs.read8.Statement.{statement}
@@ -13,7 +13,7 @@ cast-result : tie.Need-cast-result
 cast-result c = omega (arith, c .shared-slice-known .given (c .before .args .at))
 
 returns : tie.Need-returns
-returns c = omega (arith, get-one (c .before .args .at) (c .before .args .m .now), c .shared-slice-known .given (c .before .args .at))
+returns c = omega (arith, number-one (c .before .args .at) (c .before .args .m .now), c .shared-slice-known .given (c .before .args .at))
 
 pub read8-spec : {M : Type 1} → statement M
 read8-spec = tie.close (tie.spec shared-slice-read-result cast-result returns)

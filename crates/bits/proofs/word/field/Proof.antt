@@ -5,7 +5,7 @@ use native.Mathlib.Nat.{mod-lt, lt-of-lt-of-le}
 use native.Mathlib.Omega.{arith}
 use borrow.Author.Needs.{needs}
 use lib.Pow.{pow-pos, pow-mono}
-use Rattle.bits.specs.Slots.{field}
+use Rattle.bits.specs.Slots.{bitField}
 use Rattle.bits.proofs.word.field.Statement.{statement}
 use Rattle.bits.proofs.word.field.Tie as tie
 
@@ -27,7 +27,7 @@ cast-result c =
     (record { fits = lt-of-lt-of-le (mod-lt _ (pow-pos _)) (pow-mono (c .before .before .pre .1)) })
 
 returns : tie.Need-returns
-unfolding field
+unfolding bitField
 returns c = rw (c .before .power-of-two .ensures, c .power-of-two2 .ensures)
 
 pub field-spec : {M : Type 1} → statement M

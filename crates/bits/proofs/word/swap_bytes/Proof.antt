@@ -2,7 +2,7 @@
 -- Assumes nothing.
 use native.Mathlib.Omega.{arith}
 use Rattle.memory.specs.Bytes.{value, bytesOf}
-use Rattle.bits.specs.Slots.{swapped}
+use Rattle.bits.specs.Slots.{bytesReversed}
 use borrow.Author.Needs.{needs}
 use Rattle.bits.proofs.word.swap_bytes.Statement.{statement}
 use Rattle.bits.proofs.word.swap_bytes.Tie as tie
@@ -50,7 +50,7 @@ add-result : tie.Need-add-result
 add-result c = search needs
 
 returns : tie.Need-returns
-unfolding swapped value bytesOf
+unfolding bytesReversed value bytesOf
 returns c = omega arith
 
 pub swap-bytes-spec : {M : Type 1} → statement M

@@ -3,7 +3,7 @@
 use native.Mathlib.Omega.{arith}
 use borrow.Author.Needs.{needs}
 use lib.Pow.{pow-pos}
-use Rattle.bits.specs.Slots.{field, withField}
+use Rattle.bits.specs.Slots.{bitField, withBitField}
 use Rattle.bits.proofs.Slots.{old-field-le, new-field-lt, with-field-lt}
 use Rattle.bits.proofs.word.with_field.Statement.{statement}
 use Rattle.bits.proofs.word.with_field.Tie as tie
@@ -37,14 +37,14 @@ sub-result : tie.Need-sub-result
 sub-result c = rw (c .before .power-of-two .ensures, c .power-of-two2 .ensures) (old-field-le _ _ _)
 
 add-result : tie.Need-add-result
-unfolding field withField
+unfolding bitField withBitField
 add-result c =
     let a = c .before .before .args in
     rw (c .before .power-of-two .ensures, c .power-of-two2 .ensures)
     (record { fits = with-field-lt (a .word) (a .at) (a .bits) (a .x) (c .before .before .pre .0) (omega arith) })
 
 returns : tie.Need-returns
-unfolding field withField
+unfolding bitField withBitField
 returns c = rw (c .before .power-of-two .ensures, c .power-of-two2 .ensures)
 
 pub with-field-spec : {M : Type 1} → statement M

@@ -4,7 +4,8 @@ use borrow.Author.Needs.{needs}
 use Rattle.layer.proofs.checks.admit.Statement.{statement}
 use mathlib.Core.Path.{sym, _∙_}
 use Rattle.table.proofs.Accepted.{accepted-right}
-use Rattle.layer.specs.Answers.{admission}
+use Rattle.layer.specs.Admission.{admission}
+use Rattle.layer.proofs.Admitted.{admits, admits-refused}
 use Rattle.layer.proofs.checks.admit.Tie as tie
 
 check-requires : tie.Need-check-requires
@@ -27,19 +28,19 @@ enum-told-3 c = search needs
 
 returns : tie.Need-returns
 unfolding admission
-returns c = rw (sym (c .before .before .before .before .check .ensures) ∙ c .before .before .verdict .given .1) (c .admit-memory .ensures)
+returns c = admits (c .before .before .before .before .before .before .before .args .t .now) (c .before .before .before .before .before .before .before .args .m .now) (c .before .before .before .before .before .before .before .args .fits) (λ i. c .before .before .before .before .before .before .shared-slice-known .given i .fits) (λ i. c .before .before .before .before .before .shared-slice-known2 .given i .fits) _ (rw (sym (c .before .before .before .before .check .ensures) ∙ c .before .before .verdict .given .1) (c .admit-memory .ensures))
 
 returns-2 : tie.Need-returns-2
 unfolding admission
-returns-2 c = rw (sym (c .before .before .check .ensures) ∙ c .enum-told .given .1)
+returns-2 c = admits-refused (rw (sym (c .before .before .check .ensures) ∙ c .enum-told .given .1))
 
 returns-3 : tie.Need-returns-3
 unfolding admission
-returns-3 c = rw (sym (c .before .before .check .ensures) ∙ c .enum-told2 .given .1)
+returns-3 c = admits-refused (rw (sym (c .before .before .check .ensures) ∙ c .enum-told2 .given .1))
 
 returns-4 : tie.Need-returns-4
 unfolding admission
-returns-4 c = rw (sym (c .before .before .check .ensures) ∙ c .enum-told3 .given .1)
+returns-4 c = admits-refused (rw (sym (c .before .before .check .ensures) ∙ c .enum-told3 .given .1))
 
 pub admit-spec : {M : Type 1} → statement M
 admit-spec =

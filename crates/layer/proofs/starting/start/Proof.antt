@@ -14,8 +14,8 @@ check-requires c κs = search needs
 enum-known-verdict : tie.Need-enum-known-verdict
 enum-known-verdict c = search needs
 
-start-checked-requires : tie.Need-start-checked-requires
-start-checked-requires c κs = accepted-right (c .before .before .before .before .before .before .before .args .t .now) _ (sym (c .before .before .before .before .check .ensures) ∙ c .before .before .verdict .given .1)
+start-accepted-requires : tie.Need-start-accepted-requires
+start-accepted-requires c κs = accepted-right (c .before .before .before .before .before .before .before .args .t .now) _ (sym (c .before .before .before .before .check .ensures) ∙ c .before .before .verdict .given .1)
 
 enum-told : tie.Need-enum-told
 enum-told c = search needs
@@ -31,7 +31,7 @@ same-length c = search needs
 
 returns : tie.Need-returns
 unfolding step startCall
-returns c = rw (sym (c .before .before .before .before .before .before .before .check .ensures) ∙ c .before .before .before .before .before .verdict .given .1) (c .before .before .start-checked .ensures)
+returns c = rw (sym (c .before .before .before .before .before .before .before .check .ensures) ∙ c .before .before .before .before .before .verdict .given .1) (c .before .before .start-accepted .ensures)
 
 returns-2 : tie.Need-returns-2
 unfolding step startCall
@@ -51,7 +51,7 @@ start-spec =
     (tie.spec
     check-requires
     enum-known-verdict
-    start-checked-requires
+    start-accepted-requires
     enum-told
     enum-told-2
     enum-told-3

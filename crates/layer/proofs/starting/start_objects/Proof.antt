@@ -7,7 +7,7 @@ use native.Mathlib.Numerals.{unary-clauses}
 use native.Mathlib.Omega.{arith}
 use borrow.Author.Needs.{needs}
 use lib.ListN.{length}
-use Rattle.memory.specs.Search.{sum, fold}
+use Rattle.memory.specs.Search.{sumBelow, fold}
 use Rattle.table.specs.declared.Object.{Object}
 use Rattle.table.specs.Records.{objectRecord}
 use Rattle.table.specs.Decode.{objectOf}
@@ -18,7 +18,7 @@ use Rattle.layer.specs.Start.{startObject}
 use Rattle.layer.proofs.starting.start_objects.Tie as tie
 
 abbrev Inv-loop : tie.InvT-loop
-Inv-loop t c m₀ n first₀ i₀ m first i = (i ≤ n) × (m ≡ fold i (startObject t c) m₀) × (length m ≡ length m₀) × (first ≡ sum i (λ j. objectRecord t (c .ipdus) j .depth))
+Inv-loop t c m₀ n first₀ i₀ m first i = (i ≤ n) × (m ≡ fold i (startObject t c) m₀) × (length m ≡ length m₀) × (first ≡ sumBelow i (λ j. objectRecord t (c .ipdus) j .depth))
 
 abbrev μ-loop : tie.MeasureT-loop
 μ-loop t c m₀ n first₀ i₀ m first i = n - i

@@ -1,6 +1,6 @@
 -- `state::ranges::in_range` meets its contract.
 -- Assumes nothing.
-use Rattle.state.specs.Layout.{stoppedAt}
+use Rattle.state.specs.Layout.{runningAt}
 use Rattle.state.specs.Ranges.{inRange}
 use borrow.Author.Needs.{needs}
 use Rattle.state.proofs.ranges.in_range.Statement.{statement}
@@ -16,7 +16,7 @@ objects-in-range-requires : tie.Need-objects-in-range-requires
 objects-in-range-requires c κs = search needs
 
 returns : tie.Need-returns
-unfolding inRange stoppedAt
+unfolding inRange runningAt
 returns c = rw (c .before .before .read8 .ensures .0, c .before .ipdus-in-range .ensures, c .objects-in-range .ensures)
 
 pub in-range-spec : {M : Type 1} → statement M

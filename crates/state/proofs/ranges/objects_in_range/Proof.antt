@@ -6,7 +6,7 @@ use mathlib.Core.Bool.{Bool, true, false, not}
 use mathlib.Core.Path.{_≡_, refl, sym, ap, ap₂, _∙_}
 use Prim.Native.Nat.{ℕ, _+_, _-_, _≤_, _<_}
 use borrow.Author.Count.{below-more}
-use Rattle.memory.specs.Search.{sum}
+use Rattle.memory.specs.Search.{sumBelow}
 use Rattle.memory.proofs.Search.{any-none, any-some}
 use Rattle.table.specs.Records.{objectRecord}
 use Rattle.table.specs.declared.ObjectRecord.{ObjectRecord}
@@ -17,7 +17,7 @@ use native.Mathlib.Numerals.{unary-clauses}
 use borrow.Author.Needs.{needs}
 
 abbrev Inv-loop : tie.InvT-loop
-Inv-loop t m n end first₀ i₀ first i = (i ≤ end) × ((j : ℕ) → j < i → objectOut t (record { ipdus = n; objects = end }) m j ≡ false) × (first ≡ sum i (λ j. objectRecord t n j .depth))
+Inv-loop t m n end first₀ i₀ first i = (i ≤ end) × ((j : ℕ) → j < i → objectOut t (record { ipdus = n; objects = end }) m j ≡ false) × (first ≡ sumBelow i (λ j. objectRecord t n j .depth))
 
 abbrev μ-loop : tie.MeasureT-loop
 μ-loop t m n end first₀ i₀ first i = end - i

@@ -1,0 +1,123 @@
+-- Admission: what an admitted call may rely on, and what a call leaves, admitted or refused. The laws ask for plain values, so that a
+-- search finds them. Assumes nothing.
+use mathlib.Core.Bool.{Bool, true, false, _&&_}
+use mathlib.Core.List.{List, _++_}
+use mathlib.Core.Logic.{⊎-elim}
+use mathlib.Core.Path.{_≡_, refl, sym, ap, _∙_}
+use Prim.Native.Nat.{ℕ, _≤_}
+use native.Mathlib.Omega.{arith}
+use borrow.Author.Tests.{leb-true}
+use lib.Dec.{leb, eqb}
+use lib.ListN.{length, drop, take-append-drop}
+use lib.Seq.{length-take-le}
+use Rattle.memory.specs.Bytes.{Bytes, part}
+use Rattle.memory.specs.Search.{pick}
+use Rattle.memory.proofs.Laws.{part-bytes}
+use Rattle.memory.proofs.Tests.{and-split, true-or-false}
+use Rattle.table.specs.declared.Counts.{Counts}
+use Rattle.table.specs.declared.Verdict.{Verdict}
+use Rattle.table.specs.declared.Verdict.the-variants.{Accepted, WrongHeader, WrongIpdu, WrongObject}
+use Rattle.table.specs.Check.{check}
+use Rattle.table.proofs.Accepted.{accepted-right}
+use Rattle.state.specs.Layout.{memorySize, runningAt}
+use Rattle.state.specs.Ranges.{inRange, Ready}
+use Rattle.state.proofs.Ready.{in-range-ready}
+use Rattle.calls.specs.declared.Answer.{Answer}
+use Rattle.calls.specs.declared.Answer.the-variants.{WrongTable, WrongMemory, Stopped}
+use Rattle.calls.specs.Answers.{Outcome, outcome}
+use Rattle.layer.specs.declared.Admission.{Admission}
+use Rattle.layer.specs.declared.Admission.the-variants.{Admitted, Refused}
+use Rattle.layer.specs.Admission.{Open, Admits, workingMemory, admissionOf, admission, onWorkingMemory, ifAdmitted}
+
+refused-not : {c : Counts} (a : Answer) → Refused a ≡ Admitted c → ⊥
+refused-not a e = let z : _≡_ {A = ℕ} 0 1 = cc in omega arith
+
+module _ (t m : List ℕ) (fits : Bool) (bt : Bytes t) (bm : Bytes m) (c : Counts) where
+  opened : (v : Verdict) → check t ≡ v → admissionOf v t m fits ≡ Admitted c → Open t c m fits
+  unfolding part
+  opened WrongHeader h e = absurd (refused-not WrongTable e)
+  opened (WrongIpdu k) h e = absurd (refused-not WrongTable e)
+  opened (WrongObject i) h e = absurd (refused-not WrongTable e)
+  opened (Accepted d) h e =
+      ⊎-elim
+      (λ (long : (leb memorySize (length m) && fits) ≡ true).
+      ⊎-elim
+      (λ (low : inRange t d (workingMemory m) ≡ true).
+      ⊎-elim
+      (λ (off : eqb (runningAt (workingMemory m)) 0 ≡ true). absurd (refused-not Stopped (rw (long, low, off) at e)))
+      (λ (on : eqb (runningAt (workingMemory m)) 0 ≡ false). there (and-split (leb memorySize (length m)) fits long) low (rw (long, low, on) at e))
+      (true-or-false (eqb (runningAt (workingMemory m)) 0)))
+      (λ (high : inRange t d (workingMemory m) ≡ false). absurd (refused-not WrongMemory (rw (long, high) at e)))
+      (true-or-false (inRange t d (workingMemory m))))
+      (λ (short : (leb memorySize (length m) && fits) ≡ false). absurd (refused-not WrongMemory (rw short at e)))
+      (true-or-false (leb memorySize (length m) && fits))
+    where
+      there : (leb memorySize (length m) ≡ true) × (fits ≡ true) → inRange t d (workingMemory m) ≡ true → Admitted d ≡ Admitted c → Open t c m fits
+      there both low same =
+          let eq : d ≡ c = cc in
+          let long = leb-true memorySize (length m) (both .0) in
+          let exact : length (workingMemory m) ≡ memorySize = length-take-le memorySize m long in
+          rw (← eq)
+          record {
+            long = long;
+            exact = sym exact;
+            ready = in-range-ready t d (workingMemory m) (accepted-right t d h) bt (omega (arith, exact)) (part-bytes 0 memorySize m bm) low;
+            area = both .1;
+          }
+
+  admission-open : admission t m fits ≡ Admitted c → Open t c m fits
+  unfolding admission
+  admission-open e = opened (check t) refl e
+
+pub admits : (t m : List ℕ) (fits : Bool) → Bytes t → Bytes m → (a : Admission) → a ≡ admission t m fits → Admits t m fits a
+admits t m fits bt bm a e = record { same = e; opens = λ c f. admission-open t m fits bt bm c (sym e ∙ f) }
+
+pub admits-refused : {t m : List ℕ} {fits : Bool} {a : Answer} → Refused a ≡ admission t m fits → Admits t m fits (Refused a)
+admits-refused {t} {m} {fits} {a} e = record { same = e; opens = λ c f. absurd (refused-not a f) }
+
+-- ---- what an admitted call may rely on
+
+module _ {t m : List ℕ} {fits : Bool} {a : Admission} where
+  pub admitted-long : {c : Counts} → Admits t m fits a → a ≡ Admitted c → memorySize ≤ length m
+  admitted-long {c} h e = h .opens c e .long
+
+  pub admitted-exact : {c : Counts} → Admits t m fits a → a ≡ Admitted c → memorySize ≡ length (workingMemory m)
+  admitted-exact {c} h e = h .opens c e .exact
+
+  pub admitted-ready : {c : Counts} → Admits t m fits a → a ≡ Admitted c → Ready t c (workingMemory m)
+  admitted-ready {c} h e = h .opens c e .ready
+
+  pub admitted-some : {c : Counts} → Admits t m fits a → a ≡ Admitted c → 1 ≤ length (workingMemory m)
+  admitted-some {c} h e = omega (arith, h .opens c e .exact)
+
+module _ {t m : List ℕ} {n l : ℕ} {a : Admission} where
+  pub admitted-area : {c : Counts} → Admits t m (leb n l) a → a ≡ Admitted c → n ≤ l
+  admitted-area {c} h e = leb-true n l (h .opens c e .area)
+
+-- ---- the first 8,192 bytes, and the rest
+
+pub on-working-memory : (call : List ℕ → Outcome) (m : List ℕ) (a : Answer) (n area : List ℕ) → outcome a n area ≡ call (workingMemory m)
+    → outcome a (n ++ drop memorySize m) area ≡ onWorkingMemory call m
+on-working-memory call m a n area e = ap (λ (o : Outcome). outcome (o .answer) (o .memory ++ drop memorySize m) (o .area)) e
+
+-- a call that changes nothing
+pub reads-working-memory : (call : List ℕ → Outcome) (m : List ℕ) (a : Answer) (area : List ℕ)
+    → outcome a (workingMemory m) area ≡ call (workingMemory m) → outcome a m area ≡ onWorkingMemory call m
+reads-working-memory call m a area e =
+    ap (λ (n : List ℕ). outcome a n area) (sym (take-append-drop memorySize m)) ∙ on-working-memory call m a (workingMemory m) area e
+
+-- ---- what a call leaves: admitted, admitted and only reading, refused
+
+module _ (call : Counts → List ℕ → Outcome) {t m : List ℕ} {fits : Bool} {a : Admission} where
+  pub admitted-gives : {c : Counts} (area : List ℕ) {r : Answer} {n after : List ℕ} → Admits t m fits a → a ≡ Admitted c
+      → outcome r n after ≡ call c (workingMemory m)
+      → outcome r (n ++ drop memorySize m) after ≡ ifAdmitted (admission t m fits) m area call
+  admitted-gives {c} area {r} {n} {after} h e does = rw (← h .same, e) (on-working-memory (call c) m r n after does)
+
+  pub admitted-reads : {c : Counts} (area : List ℕ) {r : Answer} {after : List ℕ} → Admits t m fits a → a ≡ Admitted c
+      → outcome r (workingMemory m) after ≡ call c (workingMemory m) → outcome r m after ≡ ifAdmitted (admission t m fits) m area call
+  admitted-reads {c} area {r} {after} h e does = rw (← h .same, e) (reads-working-memory (call c) m r after does)
+
+  pub refused-gives : {r : Answer} {area : List ℕ} → Admits t m fits a → a ≡ Refused r
+      → outcome r m area ≡ ifAdmitted (admission t m fits) m area call
+  refused-gives h e = rw (← h .same, e)
