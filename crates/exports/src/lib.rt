@@ -1,20 +1,20 @@
 // The layer and the check of a table under C names, for callers in C and Rust (include/birnenschloss.h, bindings/rust). Each
 // function forwards to a proved call and has its contract; none asks anything of its caller.
-mod calls;
+mod forwarded;
 
-pub use calls::birnenschloss_clear_marks;
-pub use calls::birnenschloss_confirm;
-pub use calls::birnenschloss_indication;
-pub use calls::birnenschloss_initialise;
-pub use calls::birnenschloss_marks;
-pub use calls::birnenschloss_receive;
-pub use calls::birnenschloss_send;
-pub use calls::birnenschloss_start;
-pub use calls::birnenschloss_start_periodic;
-pub use calls::birnenschloss_status;
-pub use calls::birnenschloss_stop;
-pub use calls::birnenschloss_stop_periodic;
-pub use calls::birnenschloss_tick;
+pub use forwarded::birnenschloss_clear_marks;
+pub use forwarded::birnenschloss_confirm;
+pub use forwarded::birnenschloss_indication;
+pub use forwarded::birnenschloss_initialise;
+pub use forwarded::birnenschloss_marks;
+pub use forwarded::birnenschloss_receive;
+pub use forwarded::birnenschloss_send;
+pub use forwarded::birnenschloss_start;
+pub use forwarded::birnenschloss_start_periodic;
+pub use forwarded::birnenschloss_status;
+pub use forwarded::birnenschloss_stop;
+pub use forwarded::birnenschloss_stop_periodic;
+pub use forwarded::birnenschloss_tick;
 ghost use mathlib.Core.Path.{_≡_};
 ghost use Rattle.table.specs.Check.{check};
 ghost use Rattle.exports.specs.Answers.{answerOf};
@@ -34,6 +34,6 @@ pub extern "C" fn birnenschloss_check(table: &[u8]) -> Answer
     let verdict = table::check(table);
     Answer {
         number: table::number_of(verdict),
-        value: table::place_of(verdict),
+        value: table::place_of(verdict) as u32,
     }
 }

@@ -48,15 +48,14 @@ pub fn number_of(verdict: Verdict) -> u32
 }
 
 // Document 01's place of the record that an answer names; 0 where the table is accepted.
-pub fn place_of(verdict: Verdict) -> u32
-    requires { ⌜ placeOf verdict ≤ 65535 ⌝ }
+pub fn place_of(verdict: Verdict) -> u64
     ensures { λ r. ⌜ r ≡ placeOf verdict ⌝ }
 {
     match verdict {
         Verdict::Accepted(_) => 0,
         Verdict::WrongHeader => 65535,
-        Verdict::WrongIpdu(k) => k.0,
-        Verdict::WrongObject(i) => 256 + i.0,
+        Verdict::WrongIpdu(k) => k.0 as u64,
+        Verdict::WrongObject(i) => 256 + i.0 as u64,
     }
 }
 

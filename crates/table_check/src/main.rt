@@ -18,7 +18,7 @@ fn main() {
             io::print_decimal(STDOUT_FILENO, c.objects as u64);
             io::write_all(STDOUT_FILENO, b"\n");
         }
-        _ => print_bad(table::place_of(verdict) as u64),
+        _ => print_bad(table::place_of(verdict)),
     }
 }
 

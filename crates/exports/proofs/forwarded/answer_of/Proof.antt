@@ -1,8 +1,8 @@
--- `exports::calls::answer_of` meets its contract.
+-- `exports::forwarded::answer_of` meets its contract.
 -- Assumes nothing.
 use borrow.Author.Needs.{needs}
-use Rattle.exports.proofs.calls.answer_of.Statement.{statement}
-use Rattle.exports.proofs.calls.answer_of.Tie as tie
+use Rattle.exports.proofs.forwarded.answer_of.Statement.{statement}
+use Rattle.exports.proofs.forwarded.answer_of.Tie as tie
 
 number-of-requires : tie.Need-number-of-requires
 number-of-requires c κs = search needs
