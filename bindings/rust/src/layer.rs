@@ -84,7 +84,8 @@ impl<'t, 'm> Layer<'t, 'm> {
     }
 
     /// Sends a value: delivers it to the receivers inside, and if the filter passes it, packs it
-    /// into its I-PDU and requests that, now or when it may go. A dropped value is no error.
+    /// into its I-PDU. A triggered object then requests its I-PDU, unless that is periodic, now
+    /// or when it may go. A dropped value is no error.
     pub fn send(
         &mut self,
         area: &mut Area,
@@ -95,13 +96,15 @@ impl<'t, 'm> Layer<'t, 'm> {
         answers::value(linked::send(t, m, area, object.0, value)).map(Requests::of)
     }
 
-    /// Sets the value of an object, with no filter and no request. A queue is emptied.
+    /// Sets the value of an object, with no filter and no request. A queue is emptied, and its
+    /// overflow cleared.
     pub fn initialise(&mut self, object: ObjectNumber, value: u32) -> Result<(), Error> {
         let (t, m) = self.lent();
         answers::done(linked::initialise(t, m, object.0, value))
     }
 
-    /// The value of a receive object, each time; of a queue the oldest, which is removed.
+    /// The value of a receive object, each time; of a queue the oldest, which is removed. One
+    /// that tells of an overflow removes it as well, and clears the overflow.
     pub fn receive(&mut self, object: ObjectNumber) -> Result<Received, Error> {
         let (t, m) = self.lent();
         answers::received(linked::receive(t, m, object.0))
