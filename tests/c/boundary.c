@@ -12,6 +12,9 @@
 enum { DIRECT, INCOMING, PERIODIC, NO_IPDU };
 enum { READING, QUEUE, LAST, INSIDE, WIDE, NO_OBJECT };
 
+/* Byte 0 of working memory (docs/MEMORY.md). */
+enum { RUNS = 0, STOPPED = 1 - RUNS };
+
 #define TABLE_SIZE 224
 
 static const uint8_t right_table[TABLE_SIZE] = {
@@ -301,9 +304,10 @@ static void stop(void)
     int n;
     fresh(0xA5);
     ANSWERS(birnenschloss_start(LENT), 0, 0);
+    REQUIRE(lent.memory[0] == RUNS);
     note_bytes();
     ANSWERS(birnenschloss_stop(LENT), 0, 0);
-    before.memory[0] = 1;
+    before.memory[0] = STOPPED;
     SAME_BYTES();
     for (n = STOP; n < CALLS; n++)
         REFUSES(any(n, TABLE_SIZE, MEMORY_LENT, AREA_LENT), BIRNENSCHLOSS_E_STOPPED);

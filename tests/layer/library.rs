@@ -104,7 +104,7 @@ impl Library {
         let long = self.layer.table_right && m.len() >= 8192;
         let in_range = long && crate::ranges::in_range(table, m);
         if in_range {
-            self.layer.stopped = m[0] == 1;
+            self.layer.stopped = crate::stored::stopped(m);
         }
         let answer = self.layer.call(call, m.len(), in_range, area);
         if call.refused_by(answer.number) {

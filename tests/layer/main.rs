@@ -145,7 +145,7 @@ impl List<'_> {
         let (memory_before, mut area) = (memory.clone(), self.area.clone());
         let in_range = ranges::in_range(self.table, &memory);
         let mut layer = self.reference.clone();
-        layer.stopped = memory[0] == 1;
+        layer.stopped = stored::stopped(&memory);
         let ours = layer.call(call, memory.len(), in_range, &mut area.clone());
         let theirs = self.library.clone().call(self.table, &mut memory, call, &mut area);
         let known = |answer: Answer| [5, 6, 7, 1, 2].contains(&answer.number);

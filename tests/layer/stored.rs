@@ -5,6 +5,23 @@
 
 use crate::reference::Layer;
 
+/// Byte 0 of a layer that runs, 0 or 1; of a stopped one it is the other of the two.
+pub const RUNS: u8 = 0;
+
+/// Byte 0, of a stopped layer or not.
+pub fn first_byte(stopped: bool) -> u8 {
+    if stopped {
+        1 - RUNS
+    } else {
+        RUNS
+    }
+}
+
+/// Whether a memory in its ranges is that of a stopped layer.
+pub fn stopped(memory: &[u8]) -> bool {
+    memory[0] != RUNS
+}
+
 fn two(bytes: &[u8], at: usize) -> u16 {
     u16::from_le_bytes([bytes[at], bytes[at + 1]])
 }
@@ -15,7 +32,7 @@ fn four(bytes: &[u8], at: usize) -> u32 {
 
 /// What is stored otherwise than the reference has it; the memory is in its ranges.
 pub fn difference(layer: &Layer, memory: &[u8]) -> Option<String> {
-    if memory[0] != layer.stopped as u8 {
+    if memory[0] != first_byte(layer.stopped) {
         return Some("stopped".to_string());
     }
     for (k, p) in layer.ipdus.iter().enumerate() {
@@ -58,7 +75,7 @@ pub fn difference(layer: &Layer, memory: &[u8]) -> Option<String> {
 /// Stores the state, each queue from its first place on; for the stand-in of `--cfg own`.
 #[cfg(own)]
 pub fn write(layer: &Layer, memory: &mut [u8]) {
-    memory[0] = layer.stopped as u8;
+    memory[0] = first_byte(layer.stopped);
     for (k, p) in layer.ipdus.iter().enumerate() {
         let row = &mut memory[16 + 16 * k..][..16];
         row[..3].copy_from_slice(&[p.open as u8, p.wanted as u8, p.running as u8]);

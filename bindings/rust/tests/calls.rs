@@ -15,7 +15,7 @@ mod records;
 #[path = "../../../tests/layer/reference.rs"]
 mod reference;
 #[path = "../../../tests/layer/stored.rs"]
-#[allow(unexpected_cfgs)]
+#[allow(dead_code, unexpected_cfgs)]
 mod stored;
 #[path = "../../../tests/table.rs"]
 #[allow(dead_code, unexpected_cfgs)]
