@@ -13,7 +13,7 @@ enum { DIRECT, INCOMING, PERIODIC, NO_IPDU };
 enum { READING, QUEUE, LAST, INSIDE, WIDE, NO_OBJECT };
 
 /* Byte 0 of working memory (docs/MEMORY.md). */
-enum { RUNS = 0, STOPPED = 1 - RUNS };
+enum { RUNS = 1, STOPPED = 1 - RUNS };
 
 #define TABLE_SIZE 224
 

@@ -7,7 +7,7 @@ use crate::reference::Layer;
 use std::collections::VecDeque;
 
 /// Byte 0 of a layer that runs, 0 or 1; of a stopped one it is the other of the two.
-pub const RUNS: u8 = 0;
+pub const RUNS: u8 = 1;
 
 /// Byte 0, of a stopped layer or not.
 pub fn first_byte(stopped: bool) -> u8 {
