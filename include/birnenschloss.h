@@ -95,8 +95,10 @@ extern "C" {
 birnenschloss_answer birnenschloss_check(const uint8_t *table, size_t table_length);
 
 /* Starts the layer, or starts it again: writes all 8192 bytes, from the table alone. I-PDUs and
- * receive objects get the initial values; queues are empty, marks clear, no period runs.
- * Answers 0, 5, 6 (for the length alone). */
+ * receive objects get the initial values; queues are empty, marks clear, no period runs. It comes
+ * first: memory of zeros, as static storage is, is never that of a layer that runs, and every other
+ * call over it is refused, with 6 or 7 where the table is right. Answers 0, 5, 6 (for the length
+ * alone). */
 birnenschloss_answer birnenschloss_start(const uint8_t *table, size_t table_length,
                                          uint8_t *memory, size_t memory_length);
 

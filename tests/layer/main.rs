@@ -168,11 +168,28 @@ impl List<'_> {
         let mut call = call.clone();
         for _ in 0..test.run.pick(&[1, 1, 1, CHANGED_CALLS]) {
             let before = list.reference.clone();
+            let zeros = memories::is_zeros(&list.memory);
             let ours = list.both(test, &call, m, a, in_range);
+            if zeros {
+                list.over_zeros(test, &call, ours, in_range);
+            }
             test.met.note_changed(&call, ours, in_range, &before);
             in_range |= matches!(call, Call::Start);
             call = make::call(&mut test.run, &list.reference, 0);
         }
+    }
+
+    /// A call over memory of zeros, which is never that of a running layer: a start alone is done.
+    fn over_zeros(&self, test: &mut Test, call: &Call, answer: Answer, in_range: bool) {
+        let (event, number) = match (call, in_range) {
+            (Call::Start, _) => (Event::StartOverZeros, 0),
+            (_, true) => (Event::ZerosStopped, 7),
+            (_, false) => (Event::ZerosOutOfRange, 6),
+        };
+        if answer.number != number {
+            self.differ(test, call, &format!("memory of zeros: {answer:?}, not {number}"));
+        }
+        test.met.note(event, 1);
     }
 
     /// A call, now and then with too little memory, too small an area, other contents of the

@@ -1,5 +1,5 @@
-//! Memories that no list of calls need have left: with changed bytes, and with any numbers that
-//! are in their ranges by docs/MEMORY.md.
+//! Memories that no list of calls need have left: with changed bytes, with any numbers that are
+//! in their ranges by docs/MEMORY.md, and with zeros alone.
 
 use crate::make::scramble;
 use crate::records::{Ipdu, Object};
@@ -10,15 +10,21 @@ use crate::table::Run;
 /// A changed copy of a memory.
 pub fn changed(run: &mut Run, layer: &Layer, memory: &[u8]) -> Vec<u8> {
     let mut memory = memory.to_vec();
-    match run.below(4) {
-        0 | 1 => corrupt(run, layer, &mut memory),
-        2 => any_in_range(run, layer, &mut memory),
+    match run.below(9) {
+        0 => memory.fill(0),
+        1..=4 => corrupt(run, layer, &mut memory),
+        5 | 6 => any_in_range(run, layer, &mut memory),
         _ => {
             any_in_range(run, layer, &mut memory);
             corrupt(run, layer, &mut memory);
         }
     }
     memory
+}
+
+/// Whether a memory holds zeros alone, as static storage does before the first start.
+pub fn is_zeros(memory: &[u8]) -> bool {
+    memory.iter().all(|b| *b == 0)
 }
 
 /// Changes one to three bytes, most of them in the rows of the table's I-PDUs and objects.

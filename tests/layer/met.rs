@@ -33,14 +33,19 @@ pub enum Event {
     CountdownOfZero,
     OverflowOfEmptyQueue,
     BytesBehindLength,
+    /// Memory of zeros: a start, and the other calls where zeros are in all ranges and not.
+    StartOverZeros,
+    ZerosStopped,
+    ZerosOutOfRange,
 }
 use Event::*;
 
-const EVENTS: [Event; 20] = [
+const EVENTS: [Event; 23] = [
     RequestBySend, PostponedBySend, RequestByTick, PostponedMadeByTick, DelayRunOut, DeadlineRunOut,
     FiredOpenPeriodic, FiredOpenMixed, FiredWanted, ReceiveTimerRunOut, StopPeriodicWanted,
     StartRunning, StartOpen, ShortAreaSend, ShortAreaTick, ValueLost,
     DeadlineOfZero, CountdownOfZero, OverflowOfEmptyQueue, BytesBehindLength,
+    StartOverZeros, ZerosStopped, ZerosOutOfRange,
 ];
 
 #[derive(Default)]

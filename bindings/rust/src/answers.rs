@@ -23,7 +23,7 @@ pub enum Error {
     /// 6: a stored number is out of its range: the memory was never started with this table, or
     /// was written by something else. Never given after a start by this table.
     Memory,
-    /// 7: the layer is stopped.
+    /// 7: the layer is stopped, or its memory holds zeros and was never started.
     Stopped,
     /// 8: a confirm where no request is open.
     NoRequest,

@@ -18,8 +18,9 @@ pub enum Outcome {
 /// The interaction layer: a checked table and working memory, with the thirteen calls.
 ///
 /// [`start`](Layer::start) comes first. Over memory that was never started, the other calls are
-/// refused with [`Error::Memory`] where a stored number is out of its range; a layer may also be
-/// made over memory that an earlier one with the same table has left, and goes on from there.
+/// refused with [`Error::Memory`] where a stored number is out of its range, and over memory of
+/// zeros with that or [`Error::Stopped`]. A layer may also be made over memory that an earlier one
+/// with the same table has left, and goes on from there.
 ///
 /// ```
 /// use birnenschloss::{Error, Layer, Memory, ObjectNumber, Outcome, Table, MEMORY_SIZE};
