@@ -6,6 +6,7 @@
  */
 #include <stdio.h>
 #include <stdint.h>
+#include <string.h>
 
 enum { DOORS, CONTROL };              /* I-PDUs */
 enum { Door, CaseReading, SetPoint }; /* messages */
@@ -88,6 +89,8 @@ int main(void)
 {
     static const uint8_t set_points[3][2] = {{0xF4, 0x01}, {0xFE, 0x01}, {0x08, 0x02}};
     int i;
+    /* a start needs no zeroed memory */
+    memset(birnenschloss_osek.memory, 0xA5, sizeof birnenschloss_osek.memory);
     say("StartPeriodic before StartCOM", StartPeriodic());
     say("StartCOM", StartCOM(1));
     printf("mode %u\n", (unsigned)GetCOMApplicationMode());

@@ -13,10 +13,11 @@
  * Threads. There is no global state: calls over different memories may run at once. Two calls over
  * one memory must not, nor over one area: let a lock or an interrupt mask see to it.
  *
- * Answers. A call answers a number and a value. A number other than 0 refuses the call: the value
- * is 0 and all lent bytes stay as they were. Two exceptions: a receive that answers E_COM_LIMIT
- * gives a value, and birnenschloss_check gives a place with its 5. Of several reasons to refuse,
- * the first in the order 5, 6, 7, 1, 2, 8, 4, 3 is answered.
+ * Answers. A call answers a number and a value. A number other than 0 refuses the call: all lent
+ * bytes stay as they were, and the value is 0 (birnenschloss_check gives a place with its 5). One
+ * exception: a receive that answers E_COM_LIMIT is not refused. It gives the oldest value of the
+ * queue, removes it there and clears the overflow. Of several reasons to refuse, the first in the
+ * order 5, 6, 7, 1, 2, 8, 4, 3 is answered.
  *
  * At the boundary. Any numbers and any contents of the lent bytes are answered, and so are bytes
  * that are too few: a table of 0 or 1 bytes by 5, a memory or an area of 0 or 1 bytes by 6. Left to
@@ -94,33 +95,37 @@ extern "C" {
 birnenschloss_answer birnenschloss_check(const uint8_t *table, size_t table_length);
 
 /* Starts the layer, or starts it again: writes all 8192 bytes, from the table alone. I-PDUs and
- * receive objects get the initial values; queues are empty, marks clear, no period runs.
- * Answers 0, 5, 6 (for the length alone). */
+ * receive objects get the initial values; queues are empty, marks clear, no period runs. It comes
+ * first: memory of zeros, as static storage is, is never that of a layer that runs, and every other
+ * call over it is refused, with 6 or 7 where the table is right. Answers 0, 5, 6 (for the length
+ * alone). */
 birnenschloss_answer birnenschloss_start(const uint8_t *table, size_t table_length,
                                          uint8_t *memory, size_t memory_length);
 
-/* Stops the layer: every call but a start is answered 7 from then on. Answers 0, 5, 6, 7. */
+/* Stops the layer: up to the next start every other call over this memory is refused, with 7 where
+ * there is no reason for 5 or 6. Answers 0, 5, 6, 7. */
 birnenschloss_answer birnenschloss_stop(const uint8_t *table, size_t table_length,
                                         uint8_t *memory, size_t memory_length);
 
-/* Sends a value: gives it to the internal receivers, then filters, and packs what passes. A
- * triggered object asks for its I-PDU, now or, while another request is open or the minimum delay
- * runs, at a later tick. Answers 0 with the word of the I-PDUs requested now, also for a dropped
- * value; 1 (no send object), 5, 6, 7. */
+/* Sends a value: gives it to the internal receivers, then filters, and packs what passes. With that
+ * a triggered object asks for its I-PDU, if that is not periodic: now or, while another request is
+ * open or the minimum delay runs, at a later tick. Answers 0 with the word of the I-PDUs requested
+ * now, also for a dropped value; 1 (no send object), 5, 6, 7. */
 birnenschloss_answer birnenschloss_send(const uint8_t *table, size_t table_length,
                                         uint8_t *memory, size_t memory_length,
                                         uint8_t *area, size_t area_length,
                                         uint32_t object, uint32_t value);
 
-/* Sets the bits of a send object in its I-PDU, or the value of a receive object, whose queue is
- * emptied; the filter's old value becomes it. Not filtered, and no request. Answers 0, 1 (no
- * object), 5, 6, 7. */
+/* Sets the bits of a send object in its I-PDU, or the value of an unqueued receive object; empties
+ * a queue and clears its overflow. The filter's old value becomes the value. Not filtered, and no
+ * request. Answers 0, 1 (no object), 5, 6, 7. */
 birnenschloss_answer birnenschloss_initialise(const uint8_t *table, size_t table_length,
                                               uint8_t *memory, size_t memory_length,
                                               uint32_t object, uint32_t value);
 
 /* Gives the value of an unqueued receive object, or the oldest of a queue and removes it there.
- * Answers 0 or 3 with the value; a 3 clears the overflow; 1 (no receive object), 4, 5, 6, 7. */
+ * Answers 0 or 3 with the value; a 3 removes it too, and clears the overflow; 1 (no receive
+ * object), 4, 5, 6, 7. */
 birnenschloss_answer birnenschloss_receive(const uint8_t *table, size_t table_length,
                                            uint8_t *memory, size_t memory_length,
                                            uint32_t object);

@@ -19,8 +19,9 @@
  *                 these numbers, so compare a status of COM with COM's names alone. What the
  *                 standard leaves to the vendor is 5 to 8, as E_COM_SYS_ below.
  *   not started   Before the first StartCOM a service answers E_COM_SYS_MEMORY, after StopCOM
- *                 E_COM_SYS_STOPPED, a second StopCOM too. A wrong table is always answered
- *                 E_COM_SYS_TABLE.
+ *                 E_COM_SYS_STOPPED, a second StopCOM too. A wrong table is answered
+ *                 E_COM_SYS_TABLE by every service, StartCOM too. E_COM_ID for the mode of a
+ *                 StopCOM comes before all these.
  *   modes         There is one configuration. StartCOM takes any mode, GetCOMApplicationMode gives
  *                 it back (0 before the first StartCOM). StartCOM never answers E_COM_ID.
  *   StartCOM      Starts again from the table, also with no StopCOM before. If StartCOMExtension
@@ -81,7 +82,7 @@ extern "C" {
 /* Starts COM and keeps the mode. E_OK, E_COM_SYS_TABLE, or what StartCOMExtension answers. */
 StatusType StartCOM(COMApplicationModeType Mode);
 
-/* Stops COM. E_OK; E_COM_ID for a mode that is not COM_SHUTDOWN_IMMEDIATE. */
+/* Stops COM. E_OK; before all else E_COM_ID for a mode that is not COM_SHUTDOWN_IMMEDIATE. */
 StatusType StopCOM(COMShutdownModeType Mode);
 
 /* The mode of the last StartCOM. */
@@ -93,12 +94,13 @@ StatusType StopPeriodic(void);
 /* Sets a message to *DataRef, with no filter and no transmission. E_OK, E_COM_ID. */
 StatusType InitMessage(MessageIdentifier Message, ApplicationDataRef DataRef);
 
-/* Sends *DataRef, resets the flags of classes 2 and 4, transmits what is requested. E_OK,
- * E_COM_ID. */
+/* Sends *DataRef, resets the flags of classes 2 and 4, transmits what is requested: all this with
+ * E_OK alone. E_OK, E_COM_ID. */
 StatusType SendMessage(MessageIdentifier Message, ApplicationDataRef DataRef);
 
-/* Puts the value, or the oldest of a queue, into *DataRef with E_OK and E_COM_LIMIT, and resets the
- * flags of classes 1 and 3. E_OK, E_COM_ID, E_COM_LIMIT, E_COM_NOMSG. */
+/* Puts the value, or the oldest of a queue, which is removed there, into *DataRef with E_OK and
+ * E_COM_LIMIT. Resets the flags of classes 1 and 3 with these two and E_COM_NOMSG. E_OK, E_COM_ID,
+ * E_COM_LIMIT, E_COM_NOMSG. */
 StatusType ReceiveMessage(MessageIdentifier Message, ApplicationDataRef DataRef);
 
 /* The state of a queue. E_OK, E_COM_ID, E_COM_LIMIT, E_COM_NOMSG. */

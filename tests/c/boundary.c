@@ -12,6 +12,9 @@
 enum { DIRECT, INCOMING, PERIODIC, NO_IPDU };
 enum { READING, QUEUE, LAST, INSIDE, WIDE, NO_OBJECT };
 
+/* Byte 0 of working memory (docs/MEMORY.md). */
+enum { RUNS = 1, STOPPED = 1 - RUNS };
+
 #define TABLE_SIZE 224
 
 static const uint8_t right_table[TABLE_SIZE] = {
@@ -38,6 +41,18 @@ static const uint8_t right_table[TABLE_SIZE] = {
     /* wide: sent in periodic, bit 24, 32 bits, big, triggered, filter 0 */
     1, 2, 255, 24, 32, 1, 0, 0, 0, 0, 0, 0, 0, 0, 0, 0,
     0, 0, 0, 0, 0, 0, 0, 0, 0, 0, 0, 0, 0, 0, 0, 0,
+};
+
+/* Case 12's table, and one whose only object has a queue of 2, in a received I-PDU of a byte. */
+static const uint8_t case_12[64] = {
+    1, 0, 1, 0, 16, 0, 32, 0, 64, 0, 0, 0, 0, 0, 0, 0,
+    1, 4, 0, 0, 0, 0, 0, 0, 3, 0, 10, 0, 0, 0, 0, 0,
+    1, 0, 255, 13, 12, 0, 0, 0, 5,
+};
+static const uint8_t one_queue[64] = {
+    1, 0, 1, 0, 16, 0, 32, 0, 64, 0, 0, 0, 0, 0, 0, 0,
+    2, 1, 0, 0, 0, 0, 0, 0, 0, 0, 0, 0, 0, 0, 0, 0,
+    2, 0, 255, 0, 8, 0, 0, 2,
 };
 
 /* What is lent, with five and three bytes that no call may touch at the ends. */
@@ -301,9 +316,10 @@ static void stop(void)
     int n;
     fresh(0xA5);
     ANSWERS(birnenschloss_start(LENT), 0, 0);
+    REQUIRE(lent.memory[0] == RUNS);
     note_bytes();
     ANSWERS(birnenschloss_stop(LENT), 0, 0);
-    before.memory[0] = 1;
+    before.memory[0] = STOPPED;
     SAME_BYTES();
     for (n = STOP; n < CALLS; n++)
         REFUSES(any(n, TABLE_SIZE, MEMORY_LENT, AREA_LENT), BIRNENSCHLOSS_E_STOPPED);
@@ -313,8 +329,43 @@ static void stop(void)
     ANSWERS(birnenschloss_tick(LENT, AREA), 0, 0);
 }
 
+/* Memory of zeros, as static storage is before the first start: every call but a start is refused
+ * with this number, 7 where zeros are in the ranges of all stored numbers and 6 where an object
+ * stands behind a queue. A start is done, and a tick after it. */
+static void no_start_over_zeros(const uint8_t *table, size_t length, uint32_t number)
+{
+    int n;
+    memset(&lent, 0, sizeof lent);
+    memcpy(lent.table, table, length);
+    for (n = STOP; n < CALLS; n++)
+        REFUSES(any(n, length, MEMORY_LENT, AREA_LENT), number);
+    lent.table[16] = 0; /* a wrong direction: 5 comes first */
+    for (n = START; n < CALLS; n++)
+        REFUSES(any(n, length, MEMORY_LENT, AREA_LENT), BIRNENSCHLOSS_E_TABLE);
+    memcpy(lent.table, table, length);
+    ANSWERS(birnenschloss_start(lent.table, length, lent.memory, MEMORY_LENT), 0, 0);
+    REQUIRE(lent.memory[0] == RUNS);
+    ANSWERS(birnenschloss_tick(lent.table, length, lent.memory, MEMORY_LENT, AREA), 0, 0);
+}
+
+static void zeros(void)
+{
+    static const uint8_t frame[8] = {0x00, 0x80, 0x57, 0x01, 0, 0, 0, 0}, seven[1] = {7};
+    const uint8_t *t = lent.table;
+    uint8_t *m = lent.memory;
+    no_start_over_zeros(case_12, sizeof case_12, BIRNENSCHLOSS_E_STOPPED);
+    ANSWERS(birnenschloss_send(t, 64, m, MEMORY_LENT, AREA, 0, 2748), 0, 1);
+    REQUIRE(memcmp(lent.area, frame, 8) == 0);
+    no_start_over_zeros(one_queue, sizeof one_queue, BIRNENSCHLOSS_E_STOPPED);
+    ANSWERS(birnenschloss_indication(t, 64, m, MEMORY_LENT, 0, 1, seven, 1), 0, 0);
+    ANSWERS(birnenschloss_receive(t, 64, m, MEMORY_LENT, 0), 0, 7);
+    no_start_over_zeros(right_table, TABLE_SIZE, BIRNENSCHLOSS_E_MEMORY);
+    ANSWERS(birnenschloss_receive(LENT, LAST), 0, 90);
+}
+
 int main(void)
 {
+    zeros();
     places();
     too_short();
     start();

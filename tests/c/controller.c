@@ -37,6 +37,13 @@ static const uint8_t table[] = {
 
 struct transmitted transmitted;
 
+void fill_controller(uint8_t byte)
+{
+    memset(birnenschloss_osek.memory, byte, sizeof birnenschloss_osek.memory);
+    memset(birnenschloss_osek.area, byte, sizeof birnenschloss_osek.area);
+    memset(birnenschloss_osek.flags, byte, sizeof birnenschloss_osek.flags);
+}
+
 void birnenschloss_osek_transmit(uint32_t ipdu, const uint8_t *bytes, size_t length)
 {
     transmitted.count++;

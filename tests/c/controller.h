@@ -1,4 +1,4 @@
-/* What the controller of the OSEK test has noted of the frames that went out. */
+/* What the controller of the OSEK test has noted of the frames that went out; its storage, filled. */
 #ifndef CONTROLLER_H
 #define CONTROLLER_H
 
@@ -17,5 +17,9 @@ struct transmitted {
 };
 
 extern struct transmitted transmitted;
+
+/* Fills the working memory, request area and flags of the controller, as if something else had used
+ * them before. */
+void fill_controller(uint8_t byte);
 
 #endif

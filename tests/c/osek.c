@@ -90,10 +90,13 @@ static void all_answer(StatusType status)
 static void start(void)
 {
     REQUIRE(GetCOMApplicationMode() == 0);
+    all_answer(E_COM_SYS_MEMORY); /* over static storage as C has it */
+    fill_controller(0xA5);
     all_answer(E_COM_SYS_MEMORY);
     extension_answers = 40;
     REQUIRE(StartCOM(7) == 40 && GetCOMApplicationMode() == 7);
     REQUIRE(GetMessageStatus(COMMANDS) == E_COM_NOMSG); /* started all the same */
+    REQUIRE(flags_are(SPEED, 0) && flags_are(ECHO, 0) && flags_are(STATE, 0));
     extension_answers = E_OK;
     REQUIRE(StartCOM(9) == E_OK && GetCOMApplicationMode() == 9);
     REQUIRE(StopCOM(COM_SHUTDOWN_IMMEDIATE + 1) == E_COM_ID);

@@ -85,9 +85,8 @@ impl Library {
     }
 }
 
-/// The stand-in: a state of its own. It reads of the memory only whether its numbers are in
-/// their ranges and whether it is stopped, and writes its state there after every call that is
-/// not refused.
+/// The stand-in: reads its state from a memory in its ranges, and writes it there after every
+/// call that is not refused.
 #[cfg(own)]
 #[derive(Clone)]
 pub struct Library {
@@ -104,7 +103,7 @@ impl Library {
         let long = self.layer.table_right && m.len() >= 8192;
         let in_range = long && crate::ranges::in_range(table, m);
         if in_range {
-            self.layer.stopped = m[0] == 1;
+            crate::stored::read(&mut self.layer, m);
         }
         let answer = self.layer.call(call, m.len(), in_range, area);
         if call.refused_by(answer.number) {

@@ -1,13 +1,15 @@
 //! The library beside the reference, on random lists of calls over right and damaged tables.
 //! After every call the answer, the request area and, by the list in docs/MEMORY.md, the working
-//! memory must be as the reference says. Arguments, both optional: the seed, the least number
-//! of calls. With `--cfg own` a second copy of the reference stands in for the library, to try
-//! the test alone.
+//! memory must be as the reference says. So too over memories that no list of calls has left: the
+//! reference then goes on from the state that is stored there, or refuses with 6. Arguments, both
+//! optional: the seed, the least number of calls. With `--cfg own` a second copy of the reference
+//! stands in for the library, to try the test alone.
 
 mod call;
 mod cases;
 mod library;
 mod make;
+mod memories;
 mod met;
 mod ranges;
 mod records;
@@ -22,6 +24,9 @@ use library::Library;
 use met::{Event, Met};
 use reference::Layer;
 use table::{Answer, Run};
+
+/// The most calls over one changed memory.
+const CHANGED_CALLS: usize = 8;
 
 struct Test {
     seed: u64,
@@ -42,29 +47,32 @@ struct List<'a> {
     area: Vec<u8>,
     /// The bytes of the memory that docs/MEMORY.md names; empty where the table is wrong.
     named: Vec<bool>,
+    /// Whether the memory is one that no list of calls need have left.
+    changed: bool,
 }
 
 impl List<'_> {
     fn new(table: &[u8], memory: Vec<u8>, area: Vec<u8>) -> List<'_> {
         let reference = Layer::new(table);
         let named = if reference.table_right { ranges::named(table) } else { Vec::new() };
-        List { table, reference, library: Library::new(table), memory, area, named }
+        let (library, changed) = (Library::new(table), false);
+        List { table, reference, library, memory, area, named, changed }
     }
 
     fn differ(&self, test: &Test, call: &Call, what: &str) -> ! {
         let at = format!("seed {}, call {}", test.seed, test.calls);
-        println!("layer: {at}: {call:?}: {what}");
+        let over = if self.changed { "over a changed memory: " } else { "" };
+        println!("layer: {at}: {call:?}: {over}{what}");
         let hex: Vec<String> = self.table.iter().map(|b| format!("{b:02X}")).collect();
         println!("table, {} bytes: {}", self.table.len(), hex.join(" "));
         std::process::exit(1)
     }
 
-    /// One call on both sides, with the first `m` bytes of memory and the first `a` of the area.
-    /// The reference is told that the memory is in range: after a start it always is.
-    fn compare(&mut self, test: &mut Test, call: &Call, m: usize, a: usize) {
+    /// One call on both sides, with the first `m` bytes of memory and the first `a` of the area,
+    /// and the document's answer. The reference is told whether the memory is in its ranges.
+    fn both(&mut self, test: &Test, call: &Call, m: usize, a: usize, in_range: bool) -> Answer {
         let (memory, mut area) = (self.memory.clone(), self.area.clone());
-        let ipdus = self.reference.ipdus.clone();
-        let ours = self.reference.call(call, m, true, &mut area[..a]);
+        let ours = self.reference.call(call, m, in_range, &mut area[..a]);
         let lent = (&mut self.memory[..m], &mut self.area[..a]);
         let theirs = self.library.call(self.table, lent.0, call, lent.1);
         if theirs != ours {
@@ -76,9 +84,16 @@ impl List<'_> {
             let what = format!("byte {at} of the area: document {ours}, library {theirs}");
             self.differ(test, call, &what);
         }
-        let refused = call.refused_by(ours.number);
-        self.look_at_memory(test, call, refused, &memory);
-        if let (Call::Start, false) = (call, refused) {
+        self.look_at_memory(test, call, call.refused_by(ours.number), &memory);
+        ours
+    }
+
+    /// One call on both sides, after a start or as the first one: the memory is in its ranges, or
+    /// a start is all that is done.
+    fn compare(&mut self, test: &mut Test, call: &Call, m: usize, a: usize) {
+        let ipdus = self.reference.ipdus.clone();
+        let ours = self.both(test, call, m, a, true);
+        if let (Call::Start, false) = (call, call.refused_by(ours.number)) {
             self.start_again(test, call);
         }
         test.calls += 1;
@@ -138,29 +153,42 @@ impl List<'_> {
         }
     }
 
-    /// A call over another memory (one that was never started, or a changed copy): refused with
-    /// 6 exactly where a number is out of its range. 7, 1 and 2 are then also known; what comes
-    /// after them is not, and must be one of the other numbers.
-    fn verdict(&self, test: &mut Test, call: &Call, mut memory: Vec<u8>) {
-        let (memory_before, mut area) = (memory.clone(), self.area.clone());
-        let in_range = ranges::in_range(self.table, &memory);
-        let mut layer = self.reference.clone();
-        layer.stopped = memory[0] == 1;
-        let ours = layer.call(call, memory.len(), in_range, &mut area.clone());
-        let theirs = self.library.clone().call(self.table, &mut memory, call, &mut area);
-        let known = |answer: Answer| [5, 6, 7, 1, 2].contains(&answer.number);
-        let start = matches!(call, Call::Start);
-        if theirs != ours && (start || known(ours) || known(theirs)) {
-            let what = "over a memory that another wrote";
-            self.differ(test, call, &format!("{what}: document {ours:?}, library {theirs:?}"));
+    /// A call over another memory, one that was never started or a changed copy, and now and then
+    /// more calls. The reference goes on from the state that is stored there. Where a number is
+    /// out of its range, it answers 6 up to a start, whatever its state.
+    fn over(&self, test: &mut Test, call: &Call, memory: Vec<u8>) {
+        let (table, area, named) = (self.table, self.area.clone(), self.named.clone());
+        let (mut reference, library) = (self.reference.clone(), self.library.clone());
+        let mut in_range = ranges::in_range(table, &memory);
+        if in_range {
+            stored::read(&mut reference, &memory);
         }
-        if call.refused_by(theirs.number) && (memory != memory_before || area != self.area) {
-            self.differ(test, call, &format!("refused with {theirs:?}, but bytes were changed"));
+        let mut list = List { table, reference, library, memory, area, named, changed: true };
+        let (m, a) = (list.memory.len(), list.area.len());
+        let mut call = call.clone();
+        for _ in 0..test.run.pick(&[1, 1, 1, CHANGED_CALLS]) {
+            let before = list.reference.clone();
+            let zeros = memories::is_zeros(&list.memory);
+            let ours = list.both(test, &call, m, a, in_range);
+            if zeros {
+                list.over_zeros(test, &call, ours, in_range);
+            }
+            test.met.note_changed(&call, ours, in_range, &before);
+            in_range |= matches!(call, Call::Start);
+            call = make::call(&mut test.run, &list.reference, 0);
         }
-        if memory[8192..] != memory_before[8192..] {
-            self.differ(test, call, "bytes from 8,192 on were changed");
+    }
+
+    /// A call over memory of zeros, which is never that of a running layer: a start alone is done.
+    fn over_zeros(&self, test: &mut Test, call: &Call, answer: Answer, in_range: bool) {
+        let (event, number) = match (call, in_range) {
+            (Call::Start, _) => (Event::StartOverZeros, 0),
+            (_, true) => (Event::ZerosStopped, 7),
+            (_, false) => (Event::ZerosOutOfRange, 6),
+        };
+        if answer.number != number {
+            self.differ(test, call, &format!("memory of zeros: {answer:?}, not {number}"));
         }
-        let event = if in_range { Event::ChangedInRange } else { Event::ChangedOutOfRange };
         test.met.note(event, 1);
     }
 
@@ -182,9 +210,8 @@ impl List<'_> {
             make::scramble(run, &mut self.area);
         }
         if self.reference.table_right && run.below(5) == 0 {
-            let mut memory = self.memory.clone();
-            make::corrupt(run, &self.reference, &mut memory);
-            self.verdict(test, call, memory);
+            let memory = memories::changed(run, &self.reference, &self.memory);
+            self.over(test, call, memory);
         }
         self.compare(test, call, m, a);
     }
@@ -199,7 +226,7 @@ impl Test {
         let mut list = List::new(table, memory, area);
         for _ in 0..self.run.below(3) {
             let call = make::call(&mut self.run, &list.reference, 0);
-            list.verdict(self, &call, list.memory.clone());
+            list.over(self, &call, list.memory.clone());
         }
         list.compare(self, &Call::Start, m, a);
         self.filter_often(&mut list);

@@ -1,5 +1,5 @@
-//! The random tables, damage, memories and calls of the test. The maker of calls looks at the
-//! state of the reference only to choose arguments that meet interesting places.
+//! The random tables, damage, memories before a start, and calls of the test. The maker of calls
+//! looks at the state of the reference only to choose arguments that meet interesting places.
 
 use crate::call::Call;
 use crate::records::{pack, Object};
@@ -126,22 +126,6 @@ pub fn scramble(run: &mut Run, bytes: &mut [u8]) {
     for part in bytes.chunks_mut(4) {
         let noise = word(run).to_le_bytes();
         part.copy_from_slice(&noise[..part.len()]);
-    }
-}
-
-/// Changes one to three bytes, most of them in the rows of the table's I-PDUs and objects.
-pub fn corrupt(run: &mut Run, layer: &Layer, memory: &mut [u8]) {
-    for _ in 0..run.pick(&[1, 1, 2, 3]) {
-        let at = match run.below(10) {
-            0 => run.below(16),
-            1..=4 => 16 + 16 * run.below(layer.ipdus.len().max(1)) + run.below(16),
-            5 => 784 + 16 * run.below(layer.objects.len().max(1)) + run.below(8),
-            6..=8 => 784 + 16 * run.below(layer.objects.len().max(1)) + 8 + run.below(8),
-            _ => run.below(memory.len()),
-        };
-        let (less, more) = (memory[at].wrapping_sub(1), memory[at].wrapping_add(1));
-        let noise = run.below(256) as u8;
-        memory[at] = run.pick(&[0, 1, 2, 15, 16, less, more, more, noise]);
     }
 }
 

@@ -2,6 +2,7 @@
 
 use crate::call::Call;
 use crate::records::Ipdu;
+use crate::reference::Layer;
 use crate::table::Answer;
 
 #[derive(Clone, Copy, Debug)]
@@ -25,17 +26,26 @@ pub enum Event {
     ShortAreaTick,
     /// A full queue lost a value.
     ValueLost,
-    /// A call over a changed memory, in its ranges and not.
-    ChangedInRange,
-    ChangedOutOfRange,
+    /// What only a changed memory holds, met by a call: an open request with a deadline of 0 and
+    /// a running countdown of 0, by a tick; the overflow of an empty queue, by a receive or a
+    /// status; bytes behind the length of an I-PDU that is requested.
+    DeadlineOfZero,
+    CountdownOfZero,
+    OverflowOfEmptyQueue,
+    BytesBehindLength,
+    /// Memory of zeros: a start, and the other calls where zeros are in all ranges and not.
+    StartOverZeros,
+    ZerosStopped,
+    ZerosOutOfRange,
 }
 use Event::*;
 
-const EVENTS: [Event; 18] = [
+const EVENTS: [Event; 23] = [
     RequestBySend, PostponedBySend, RequestByTick, PostponedMadeByTick, DelayRunOut, DeadlineRunOut,
     FiredOpenPeriodic, FiredOpenMixed, FiredWanted, ReceiveTimerRunOut, StopPeriodicWanted,
     StartRunning, StartOpen, ShortAreaSend, ShortAreaTick, ValueLost,
-    ChangedInRange, ChangedOutOfRange,
+    DeadlineOfZero, CountdownOfZero, OverflowOfEmptyQueue, BytesBehindLength,
+    StartOverZeros, ZerosStopped, ZerosOutOfRange,
 ];
 
 #[derive(Default)]
@@ -49,6 +59,11 @@ pub struct Met {
     marks: [u64; 4],
     /// Of each filter, how many values it dropped and passed.
     judged: [[u64; 2]; 15],
+    /// How often each number was answered over a changed memory.
+    changed_numbers: [u64; 9],
+    /// How often each call was made over a changed memory: done and refused where its numbers are
+    /// in their ranges, and where one is not.
+    changed: [[u64; 3]; 13],
 }
 
 impl Met {
@@ -115,6 +130,34 @@ impl Met {
         }
     }
 
+    /// A call over a changed memory, with the state that was stored there.
+    pub fn note_changed(&mut self, call: &Call, answer: Answer, in_range: bool, before: &Layer) {
+        self.changed_numbers[answer.number as usize] += 1;
+        let refused = call.refused_by(answer.number);
+        let class = if in_range { refused as usize } else { 2 };
+        self.changed[call.kind()][class] += 1;
+        if !in_range || before.stopped {
+            return;
+        }
+        match call {
+            Call::Receive { object } | Call::Status { object } if answer.number == 4 => {
+                let overflow = before.objects[*object as usize].overflow;
+                self.note(OverflowOfEmptyQueue, overflow as u64);
+            }
+            Call::Send { .. } | Call::Tick if !refused => {
+                let tick = matches!(call, Call::Tick);
+                for (k, p) in before.ipdus.iter().enumerate() {
+                    let requested = answer.value >> k & 1 == 1;
+                    let behind = p.bytes[p.length..].iter().any(|b| *b != 0);
+                    self.note(BytesBehindLength, (requested && behind) as u64);
+                    self.note(DeadlineOfZero, (tick && p.open && p.deadline_left == 0) as u64);
+                    self.note(CountdownOfZero, (tick && p.running && p.countdown == 0) as u64);
+                }
+            }
+            _ => {}
+        }
+    }
+
     /// The names of what was never met.
     pub fn missing(&self) -> Vec<String> {
         let mut list = Vec::new();
@@ -127,6 +170,15 @@ impl Met {
         (0..9).for_each(|n| look(format!("answer {n}"), self.numbers[n]));
         (0..13).for_each(|n| look(format!("call {n}"), self.accepted[n]));
         (0..4).for_each(|bit| look(format!("mark {}", 1 << bit), self.marks[bit]));
+        // A changed memory is lent with a right table; over one in its ranges a start is done.
+        for (n, times) in self.changed_numbers.iter().enumerate() {
+            look(format!("answer {n} over a changed memory"), times + (n == 5) as u64);
+        }
+        for (n, [done, refused, out_of_range]) in self.changed.iter().enumerate() {
+            look(format!("call {n} done over a changed memory"), *done);
+            look(format!("call {n} refused over a changed memory"), refused + (n == 0) as u64);
+            look(format!("call {n} over a number out of its range"), *out_of_range);
+        }
         // Filter 0 drops nothing, and filter 1 passes nothing.
         for (f, [dropped, passed]) in self.judged.iter().enumerate() {
             look(format!("drop by filter {f}"), dropped + (f == 0) as u64);
@@ -139,5 +191,7 @@ impl Met {
         println!("answers 0 to 8: {:?}; marks read: {:?}", self.numbers, self.marks);
         let times = |e: &Event| format!("{e:?} {}", self.events[*e as usize]);
         println!("{}", EVENTS.iter().map(times).collect::<Vec<_>>().join(", "));
+        println!("over changed memories, answers 0 to 8: {:?}", self.changed_numbers);
+        println!("each call done, refused, and with a number out of range: {:?}", self.changed);
     }
 }

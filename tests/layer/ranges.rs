@@ -20,6 +20,7 @@ fn object_records(table: &[u8]) -> impl Iterator<Item = &[u8]> {
 
 /// Whether every stored number is in its range.
 pub fn in_range(table: &[u8], memory: &[u8]) -> bool {
+    // Whether the layer runs, by either number.
     if memory[0] > 1 {
         return false;
     }

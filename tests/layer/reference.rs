@@ -289,6 +289,8 @@ impl Layer {
         done(word)
     }
 
+    /// An open request's deadline of 0 and a running countdown of 0, which only a changed memory
+    /// can hold, run out as 1 does (docs/DECISIONS.md, "Tick").
     fn tick_send(&mut self, k: usize, area: &mut [u8]) -> u32 {
         // (1)
         let p = &mut self.ipdus[k];
@@ -297,7 +299,7 @@ impl Layer {
         }
         // (2)
         if p.open {
-            p.deadline_left -= 1;
+            p.deadline_left = p.deadline_left.saturating_sub(1);
             if p.deadline_left == 0 {
                 p.open = false;
                 p.delay = 0;
@@ -307,7 +309,7 @@ impl Layer {
         // (3)
         let p = &mut self.ipdus[k];
         if p.running {
-            p.countdown -= 1;
+            p.countdown = p.countdown.saturating_sub(1);
             if p.countdown == 0 {
                 p.countdown = p.period;
                 p.wanted = true;

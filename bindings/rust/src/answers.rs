@@ -6,7 +6,8 @@ use core::fmt;
 
 /// Why a call was refused. A refused call leaves the memory and the request area as they were.
 ///
-/// Number 3, a value lost by a full queue, is no refusal: see [`Received`] and [`Status`].
+/// Number 3, a value lost by a full queue, is no error: see [`Received`] and [`Status`]. A receive
+/// that gives it has removed the value and cleared the overflow.
 #[derive(Clone, Copy, Debug, PartialEq, Eq, Hash)]
 pub enum Error {
     /// 1, E_COM_ID: the number is too large or of the wrong kind: a receive where a send object
@@ -20,9 +21,9 @@ pub enum Error {
     /// 5: the table is wrong. A [`Layer`](crate::Layer) never gives it: its table was checked.
     Table,
     /// 6: a stored number is out of its range: the memory was never started with this table, or
-    /// was written by something else. Never given after a start.
+    /// was written by something else. Never given after a start by this table.
     Memory,
-    /// 7: the layer is stopped.
+    /// 7: the layer is stopped, or its memory holds zeros and was never started.
     Stopped,
     /// 8: a confirm where no request is open.
     NoRequest,

@@ -18,8 +18,9 @@ pub enum Outcome {
 /// The interaction layer: a checked table and working memory, with the thirteen calls.
 ///
 /// [`start`](Layer::start) comes first. Over memory that was never started, the other calls are
-/// refused with [`Error::Memory`] where a stored number is out of its range; a layer may also be
-/// made over memory that an earlier one with the same table has left, and goes on from there.
+/// refused with [`Error::Memory`] where a stored number is out of its range, and over memory of
+/// zeros with that or [`Error::Stopped`]. A layer may also be made over memory that an earlier one
+/// with the same table has left, and goes on from there.
 ///
 /// ```
 /// use birnenschloss::{Error, Layer, Memory, ObjectNumber, Outcome, Table, MEMORY_SIZE};
@@ -84,7 +85,8 @@ impl<'t, 'm> Layer<'t, 'm> {
     }
 
     /// Sends a value: delivers it to the receivers inside, and if the filter passes it, packs it
-    /// into its I-PDU and requests that, now or when it may go. A dropped value is no error.
+    /// into its I-PDU. A triggered object then requests its I-PDU, unless that is periodic, now
+    /// or when it may go. A dropped value is no error.
     pub fn send(
         &mut self,
         area: &mut Area,
@@ -95,13 +97,15 @@ impl<'t, 'm> Layer<'t, 'm> {
         answers::value(linked::send(t, m, area, object.0, value)).map(Requests::of)
     }
 
-    /// Sets the value of an object, with no filter and no request. A queue is emptied.
+    /// Sets the value of an object, with no filter and no request. A queue is emptied, and its
+    /// overflow cleared.
     pub fn initialise(&mut self, object: ObjectNumber, value: u32) -> Result<(), Error> {
         let (t, m) = self.lent();
         answers::done(linked::initialise(t, m, object.0, value))
     }
 
-    /// The value of a receive object, each time; of a queue the oldest, which is removed.
+    /// The value of a receive object, each time; of a queue the oldest, which is removed. One
+    /// that tells of an overflow removes it as well, and clears the overflow.
     pub fn receive(&mut self, object: ObjectNumber) -> Result<Received, Error> {
         let (t, m) = self.lent();
         answers::received(linked::receive(t, m, object.0))

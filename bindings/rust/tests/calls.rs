@@ -15,7 +15,7 @@ mod records;
 #[path = "../../../tests/layer/reference.rs"]
 mod reference;
 #[path = "../../../tests/layer/stored.rs"]
-#[allow(unexpected_cfgs)]
+#[allow(dead_code, unexpected_cfgs)]
 mod stored;
 #[path = "../../../tests/table.rs"]
 #[allow(dead_code, unexpected_cfgs)]
@@ -293,6 +293,54 @@ fn tick() {
         assert_eq!(pair.ask(Call::Marks { object: 5 }), (0, 4));
         assert_eq!(pair.ask(Call::Marks { object: 6 }), (0, 8));
     });
+}
+
+/// Case 12's table: an I-PDU that is sent, and an object with no queue.
+fn case_12() -> Vec<u8> {
+    let mut reading = object(&[1, 0, 255, 13, 12]);
+    set_filter(&mut reading, 5, [0, 0, 0]);
+    join(&[ipdu(1, 4, 0, [0, 0, 3, 10, 0])], &[reading])
+}
+
+/// An I-PDU that is received, and one object, with a queue.
+fn one_queue() -> Vec<u8> {
+    join(&[ipdu(2, 1, 0, [0; 5])], &[object(&[2, 0, 255, 0, 8, 0, 0, 2])])
+}
+
+/// Memory of zeros, as static storage is, is never that of a running layer. Every call but a start
+/// is refused over it: as stopped where zeros are in the ranges of all stored numbers, and with 6
+/// over the table where objects stand behind a queue.
+#[test]
+fn zeros() {
+    let calls = [
+        Call::Stop,
+        Call::Send { object: 0, value: 1 },
+        Call::Initialise { object: 0, value: 1 },
+        Call::Receive { object: 0 },
+        Call::Status { object: 0 },
+        Call::Marks { object: 0 },
+        Call::ClearMarks { object: 0 },
+        Call::StartPeriodic,
+        Call::StopPeriodic,
+        Call::Indication { ipdu: 0, good: true, bytes: vec![1] },
+        Call::Confirm { ipdu: 0, good: true },
+        Call::Tick,
+    ];
+    for (table, number) in [(case_12(), 7), (one_queue(), 7), (five_ipdus(), 6)] {
+        let mut memory = [0; MEMORY_SIZE];
+        let mut pair = Pair::new(&table, &mut memory);
+        for call in &calls {
+            let answer = made(&mut pair.layer, &mut pair.area, call);
+            assert_eq!(answer, (number, 0), "{call:?}");
+            assert_eq!(*pair.layer.memory(), [0; MEMORY_SIZE], "{call:?}");
+            assert_eq!(pair.area, [0xA5; AREA_SIZE], "{call:?}");
+        }
+        pair.done(Call::Start);
+        for call in &calls[1..] {
+            pair.ask(call.clone());
+        }
+        pair.done(Call::Stop);
+    }
 }
 
 /// Long lists over random tables, with the makers of tests/layer.
