@@ -33,22 +33,6 @@ use Rattle.trace.proofs.Lists.{start-accepted, Follows, start-follows, 
 
 -- ---- no 6
 
--- the area of a send or a tick is long enough
-abbrev pub Fits : Call → Type 0
-Fits start = Unit {0}
-Fits stop = Unit {0}
-Fits (send i v area) = areaSize ≤ length area
-Fits (initialise i v) = Unit {0}
-Fits (receive i) = Unit {0}
-Fits (status i) = Unit {0}
-Fits (marks i) = Unit {0}
-Fits (clearMarks i) = Unit {0}
-Fits startPeriodic = Unit {0}
-Fits stopPeriodic = Unit {0}
-Fits (indication k good bytes) = Unit {0}
-Fits (confirm k good) = Unit {0}
-Fits (tick area) = areaSize ≤ length area
-
 abbrev NotSix : Outcome → Type 0
 NotSix o = numberOf (o .answer) ≡ 6 → ⊥
 
@@ -151,11 +135,6 @@ module _ (t : List ℕ) (c : Counts) (accepted : check t ≡ Accepted c) (bt : B
   step-not-6 (tick area) y = follow-not area (λ d. tickIn t d area) (leb areaSize (length area)) (le-leb areaSize (length area) y) zero-not
 
 -- ---- lists of calls
-
--- no call of the list answers 6, but for a request area that is too short
-abbrev pub Never6 : List ℕ → List Call → List ℕ → Type 0
-Never6 t [] m = Unit {0}
-Never6 t (call ∷ calls) m = (Fits call → numberOf (step t call m .answer) ≡ 6 → ⊥) × Never6 t calls (step t call m .memory)
 
 module _ (t : List ℕ) (c : Counts) (accepted : check t ≡ Accepted c) (bt : Bytes t) where
   after-start : (calls : List Call) → AllTyped calls → (b : Book) (m : List ℕ) → Follows t c b m → Never6 t calls m

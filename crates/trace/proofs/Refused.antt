@@ -28,30 +28,9 @@ use Rattle.calls.specs.Calls.{isObject, isIpdu, stopIn, wants, request, sendOf,
 use Rattle.calls.specs.Tick.{tickIn}
 use Rattle.layer.specs.Step.{Call, start, stop, send, initialise, receive, status, marks, clearMarks, startPeriodic, stopPeriodic, indication, confirm, tick, step}
 
--- the area that a call is lent
-abbrev pub areaOf : Call → List ℕ
-areaOf (send i value area) = area
-areaOf start = []
-areaOf stop = []
-areaOf (initialise i value) = []
-areaOf (receive i) = []
-areaOf (status i) = []
-areaOf (marks i) = []
-areaOf (clearMarks i) = []
-areaOf startPeriodic = []
-areaOf stopPeriodic = []
-areaOf (indication k good bytes) = []
-areaOf (confirm k good) = []
-areaOf (tick area) = area
-
--- all lent bytes are as found
-pub record Unchanged (m lent : List ℕ) (o : Outcome) : Type 0 where
-  pub memory : o .memory ≡ m
-  pub area : o .area ≡ lent
-
--- not done, and not a receive's 3
+-- refused, it leaves all
 abbrev Leaves : List ℕ → List ℕ → Outcome → Type 0
-Leaves m area o = (numberOf (o .answer) ≡ 0 → ⊥) → (numberOf (o .answer) ≡ 3 → ⊥) → Unchanged m area o
+Leaves m area o = Refused o → Unchanged m area o
 
 same : (a : Answer) (m area : List ℕ) → Leaves m area (outcome a m area)
 same a m area done limit = record { memory = refl; area = refl }

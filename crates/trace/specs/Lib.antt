@@ -2,3 +2,4 @@ pub mod Case
 pub mod Cases
 pub mod Book
 pub mod Demand3
+pub mod Refusals
