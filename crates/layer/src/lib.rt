@@ -3,14 +3,13 @@
 mod checks;
 mod starting;
 
-pub use checks::admit;
+pub use calls::Answer;
 pub use calls::number_of;
 pub use calls::value_of;
-pub use calls::Answer;
+pub use checks::admit;
 pub use starting::start;
 pub use state::AREA_SIZE;
 pub use state::MEMORY_SIZE;
-
 use table::Counts;
 use table::IpduNumber;
 use table::ObjectNumber;

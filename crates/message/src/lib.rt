@@ -7,11 +7,11 @@ pub use delivery::deliver_frame;
 pub use delivery::deliver_inside;
 pub use delivery::mark_objects;
 pub use objects::deliver;
+pub use objects::dequeue;
 pub use objects::filter_sent;
 pub use objects::initialise;
 pub use objects::oldest;
 pub use objects::pack;
-pub use objects::dequeue;
 
 // The marks of an object, added.
 pub const ARRIVED: u32 = 1;
