@@ -37,6 +37,16 @@ admissionOf (WrongObject i) t m fits = Refused WrongTable
 unfoldable pub admission : List ℕ → List ℕ → Bool → Admission
 admission t m fits = admissionOf (check t) t m fits
 
+-- a start looks at the table and at the length of memory alone
+abbrev pub startAdmissionOf : Verdict → List ℕ → Admission
+startAdmissionOf (Accepted c) m = pick (leb memorySize (length m)) (Admitted c) (Refused WrongMemory)
+startAdmissionOf WrongHeader m = Refused WrongTable
+startAdmissionOf (WrongIpdu k) m = Refused WrongTable
+startAdmissionOf (WrongObject i) m = Refused WrongTable
+
+unfoldable pub startAdmission : List ℕ → List ℕ → Admission
+startAdmission t m = startAdmissionOf (check t) m
+
 -- what an admitted call may rely on: memory long enough, the table right, every stored number in range, the area long enough
 pub record Open (t : List ℕ) (c : Counts) (m : List ℕ) (fits : Bool) : Type 0 where
   pub long : memorySize ≤ length m

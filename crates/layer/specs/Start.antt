@@ -1,23 +1,21 @@
 -- Document 01, "Calls": what a start writes. Assumes nothing.
-use mathlib.Core.List.{List, [], _++_}
+use mathlib.Core.List.{List, []}
 use Prim.Native.Nat.{ℕ}
-use lib.Dec.{leb, eqb}
-use lib.ListN.{length, drop, replicate}
+use lib.Dec.{eqb}
+use lib.ListN.{replicate}
 use Rattle.memory.specs.Search.{pick, fold}
 use Rattle.table.specs.declared.Counts.{Counts}
 use Rattle.table.specs.declared.Direction.{Direction}
 use Rattle.table.specs.declared.Direction.the-variants.{Send, Receive}
 use Rattle.table.specs.declared.Ipdu.{Ipdu}
 use Rattle.table.specs.declared.Object.{Object}
-use Rattle.table.specs.declared.Verdict.{Verdict}
-use Rattle.table.specs.declared.Verdict.the-variants.{Accepted, WrongHeader, WrongIpdu, WrongObject}
-use Rattle.table.specs.Check.{check, depths}
+use Rattle.table.specs.Check.{depths}
 use Rattle.state.specs.declared.IpduState.{IpduState}
 use Rattle.state.specs.declared.ObjectState.{ObjectState}
 use Rattle.state.specs.Layout.{memorySize, withRunning, withIpduState, withObjectState}
 use Rattle.message.specs.Objects.{object, pack}
 use Rattle.transmission.specs.Requests.{ipdu}
-use Rattle.calls.specs.declared.Answer.the-variants.{Done, WrongTable, WrongMemory}
+use Rattle.calls.specs.declared.Answer.the-variants.{Done}
 use Rattle.calls.specs.Answers.{Outcome, outcome}
 
 -- bytes that the list of stored numbers does not name are 0
@@ -75,12 +73,6 @@ prepared t c = fold (c .objects) (startObject t c) (fold (c .ipdus) (startIpdu t
 unfoldable pub started : List ℕ → Counts → List ℕ
 started t c = withRunning (prepared t c) 1
 
--- start looks at the table and at the length of memory alone, and writes the first 8,192 bytes
-abbrev pub startOf : Verdict → List ℕ → List ℕ → Outcome
-startOf (Accepted c) t m = pick (leb memorySize (length m)) (outcome (Done 0) (started t c ++ drop memorySize m) []) (outcome WrongMemory m [])
-startOf WrongHeader t m = outcome WrongTable m []
-startOf (WrongIpdu k) t m = outcome WrongTable m []
-startOf (WrongObject i) t m = outcome WrongTable m []
-
-unfoldable pub startCall : List ℕ → List ℕ → Outcome
-startCall t m = startOf (check t) t m
+-- start writes the first 8,192 bytes, whatever was there
+abbrev pub startIn : List ℕ → Counts → List ℕ → Outcome
+startIn t c m = outcome (Done 0) (started t c) []

@@ -1,16 +1,19 @@
--- The calls of document 01 as data, what one does (`step`), and what a list of them does (`run`).
+-- The calls of document 01 as data, what each is made of, what one does (`step`), and what a list of them does (`run`).
 -- Assumes nothing.
 use mathlib.Core.Bool.{Bool, true, false}
 use mathlib.Core.List.{List, [], _∷_}
 use Prim.Native.Nat.{ℕ}
 use lib.Dec.{leb}
 use lib.ListN.{length}
+use Rattle.memory.specs.Search.{pick}
+use Rattle.table.specs.declared.Counts.{Counts}
 use Rattle.state.specs.Layout.{areaSize}
 use Rattle.calls.specs.Answers.{Outcome}
 use Rattle.calls.specs.Calls.{stopIn, sendIn, initialiseIn, receiveIn, statusIn, marksIn, clearMarksIn, periodicIn, indicationIn, confirmIn}
 use Rattle.calls.specs.Tick.{tickIn}
-use Rattle.layer.specs.Admission.{admission, ifAdmitted}
-use Rattle.layer.specs.Start.{startCall}
+use Rattle.layer.specs.declared.Admission.{Admission}
+use Rattle.layer.specs.Admission.{admission, startAdmission, ifAdmitted}
+use Rattle.layer.specs.Start.{startIn}
 
 -- a call with its arguments: i is an object's number, k an I-PDU's. A send and a tick are lent a request area.
 pub data Call : Type 0 where
@@ -28,21 +31,66 @@ pub data Call : Type 0 where
   confirm : (k : ℕ) (good : Bool) → Call
   tick : (area : List ℕ) → Call
 
--- what a call over this table and working memory does
+-- ---- what a call is made of
+
+-- the request area that it is lent, or none
+pub data Lent : Type 0 where
+  noArea : Lent
+  requests : (area : List ℕ) → Lent
+
+abbrev pub lentBytes : Lent → List ℕ
+lentBytes noArea = []
+lentBytes (requests area) = area
+
+-- the area is long enough
+abbrev pub longEnough : Lent → Bool
+longEnough noArea = true
+longEnough (requests area) = leb areaSize (length area)
+
+-- what it tells of the values sent; of its request area and of working memory nothing
+pub data Told : Type 0 where
+  toldStart : Told
+  toldStop : Told
+  toldSend : (i value : ℕ) → Told
+  toldInitialise : (i value : ℕ) → Told
+  toldNothing : Told
+
+-- the area lent, whether the layer has to run, what is told of the values sent, the bytes of an indication, and what the call does
+-- over an accepted table
+pub record Description : Type 0 where
+  pub lent : Lent
+  pub running : Bool
+  pub told : Told
+  pub bytes : List ℕ
+  pub does : List ℕ → Counts → List ℕ → Outcome
+
+abbrev pub described : Lent → Bool → Told → List ℕ → (List ℕ → Counts → List ℕ → Outcome) → Description
+described lent running told bytes does = record { lent = lent; running = running; told = told; bytes = bytes; does = does }
+
+-- one row for each call
+abbrev pub describe : Call → Description
+describe start = described noArea false toldStart [] startIn
+describe stop = described noArea true toldStop [] (λ t c. stopIn)
+describe (send i value area) = described (requests area) true (toldSend i value) [] (λ t c. sendIn t c i value area)
+describe (initialise i value) = described noArea true (toldInitialise i value) [] (λ t c. initialiseIn t c i value)
+describe (receive i) = described noArea true toldNothing [] (λ t c. receiveIn t c i)
+describe (status i) = described noArea true toldNothing [] (λ t c. statusIn t c i)
+describe (marks i) = described noArea true toldNothing [] (λ t c. marksIn c i)
+describe (clearMarks i) = described noArea true toldNothing [] (λ t c. clearMarksIn c i)
+describe startPeriodic = described noArea true toldNothing [] (periodicIn true)
+describe stopPeriodic = described noArea true toldNothing [] (periodicIn false)
+describe (indication k good bytes) = described noArea true toldNothing bytes (λ t c. indicationIn t c k good bytes)
+describe (confirm k good) = described noArea true toldNothing [] (λ t c. confirmIn t c k good)
+describe (tick area) = described (requests area) true toldNothing [] (λ t c. tickIn t c area)
+
+-- ---- what it does
+
+abbrev pub admissionFor : Description → List ℕ → List ℕ → Admission
+admissionFor d t m = pick (d .running) (admission t m (longEnough (d .lent))) (startAdmission t m)
+
+-- what a call over this table and working memory does: admitted or refused, then its own
 unfoldable pub step : List ℕ → Call → List ℕ → Outcome
-step t start m = startCall t m
-step t stop m = ifAdmitted (admission t m true) m [] (λ c. stopIn)
-step t (send i value area) m = ifAdmitted (admission t m (leb areaSize (length area))) m area (λ c. sendIn t c i value area)
-step t (initialise i value) m = ifAdmitted (admission t m true) m [] (λ c. initialiseIn t c i value)
-step t (receive i) m = ifAdmitted (admission t m true) m [] (λ c. receiveIn t c i)
-step t (status i) m = ifAdmitted (admission t m true) m [] (λ c. statusIn t c i)
-step t (marks i) m = ifAdmitted (admission t m true) m [] (λ c. marksIn c i)
-step t (clearMarks i) m = ifAdmitted (admission t m true) m [] (λ c. clearMarksIn c i)
-step t startPeriodic m = ifAdmitted (admission t m true) m [] (λ c. periodicIn true t c)
-step t stopPeriodic m = ifAdmitted (admission t m true) m [] (λ c. periodicIn false t c)
-step t (indication k good bytes) m = ifAdmitted (admission t m true) m [] (λ c. indicationIn t c k good bytes)
-step t (confirm k good) m = ifAdmitted (admission t m true) m [] (λ c. confirmIn t c k good)
-step t (tick area) m = ifAdmitted (admission t m (leb areaSize (length area))) m area (λ c. tickIn t c area)
+step t call m = ifAdmitted (admissionFor (describe call) t m) m (lentBytes (describe call .lent)) (describe call .does t)
 
 -- what a list of calls over one table gives, each on the working memory that the one before left
 abbrev pub run : List ℕ → List Call → List ℕ → List Outcome

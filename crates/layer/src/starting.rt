@@ -23,7 +23,8 @@ ghost use Rattle.table.specs.Decode.{Right};
 ghost use Rattle.state.specs.Layout.{memorySize, objectRow};
 ghost use Rattle.message.specs.Objects.{Placed};
 ghost use Rattle.calls.specs.Answers.{outcome};
-ghost use Rattle.layer.specs.Start.{idle, firstTimer, startIpdu, unused, startAs, startObject, started, startOf};
+ghost use Rattle.layer.specs.Start.{idle, firstTimer, startIpdu, unused, startAs, startObject, started, startIn};
+ghost use Rattle.layer.specs.Admission.{startAdmissionOf, ifAdmitted};
 ghost use Rattle.layer.specs.Step.{start, step};
 
 // Starts the layer, from any bytes in memory.
@@ -42,7 +43,7 @@ pub fn start(t: &[u8], m: &mut [u8]) -> Answer
 // Starts the layer over a table that was accepted.
 fn start_accepted(t: &[u8], c: Counts, m: &mut [u8]) -> Answer
     requires { ⌜ Right (now t) c ⌝ }
-    ensures { λ r. ⌜ outcome r (now (m .exit)) [] ≡ startOf (Accepted c) (now (t .entry)) (now (m .entry)) ⌝ }
+    ensures { λ r. ⌜ outcome r (now (m .exit)) [] ≡ ifAdmitted (startAdmissionOf (Accepted c) (now (m .entry))) (now (m .entry)) [] (startIn (now (t .entry))) ⌝ }
 {
     if m.len() < MEMORY_SIZE {
         return Answer::WrongMemory;

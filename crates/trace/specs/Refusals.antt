@@ -32,9 +32,9 @@ pub record Unchanged (m lent : List ℕ) (o : Outcome) : Type 0 where
   pub memory : o .memory ≡ m
   pub area : o .area ≡ lent
 
--- refused: neither done nor a receive's 3
-abbrev pub Refused : Outcome → Type 0
-Refused o = (numberOf (o .answer) ≡ 0 → ⊥) × (numberOf (o .answer) ≡ 3 → ⊥)
+-- any number but 0, and but the 3 of a receive
+abbrev pub IsRefused : Call → Outcome → Type 0
+IsRefused call o = (numberOf (o .answer) ≡ 0 → ⊥) × (numberOf (o .answer) ≡ 3 → (i : ℕ) → call ≡ receive i → ⊥)
 
 -- ---- 6 for a range is never answered after a start
 

@@ -4,7 +4,7 @@ use borrow.Author.Needs.{needs}
 use Rattle.layer.proofs.starting.start.Statement.{statement}
 use mathlib.Core.Path.{sym, _∙_}
 use Rattle.table.proofs.Accepted.{accepted-right}
-use Rattle.layer.specs.Start.{startCall}
+use Rattle.layer.specs.Admission.{startAdmission}
 use Rattle.layer.specs.Step.{step}
 use Rattle.layer.proofs.starting.start.Tie as tie
 
@@ -30,19 +30,19 @@ same-length : tie.Need-same-length
 same-length c = search needs
 
 returns : tie.Need-returns
-unfolding step startCall
+unfolding step startAdmission
 returns c = rw (sym (c .before .before .before .before .before .before .before .check .ensures) ∙ c .before .before .before .before .before .verdict .given .1) (c .before .before .start-accepted .ensures)
 
 returns-2 : tie.Need-returns-2
-unfolding step startCall
+unfolding step startAdmission
 returns-2 c = rw (sym (c .before .before .check .ensures) ∙ c .enum-told .given .1)
 
 returns-3 : tie.Need-returns-3
-unfolding step startCall
+unfolding step startAdmission
 returns-3 c = rw (sym (c .before .before .check .ensures) ∙ c .enum-told2 .given .1)
 
 returns-4 : tie.Need-returns-4
-unfolding step startCall
+unfolding step startAdmission
 returns-4 c = rw (sym (c .before .before .check .ensures) ∙ c .enum-told3 .given .1)
 
 pub start-spec : {M : Type 1} → statement M
