@@ -12,7 +12,7 @@ use Rattle.layer.specs.Step.{Call, start, step}
 use Rattle.trace.specs.Book.{Book, unopened, opened, advance}
 use Rattle.trace.specs.Demand3.{done, CallKept, AllAlike, SameAnswer, Demand3}
 use Rattle.trace.proofs.Hands.{hands-none}
-use Rattle.trace.proofs.Lists.{start-accepted, start-follows}
+use Rattle.trace.proofs.Steps.{start-accepted, start-follows}
 use Rattle.trace.proofs.Calls.{list-kept}
 use Rattle.trace.proofs.Pairs.{start-same, lists-same}
 

@@ -10,14 +10,15 @@ use native.Mathlib.Nat.{not-suc-le-zero}
 use native.Mathlib.Omega.{arith}
 use borrow.Author.Tests.{eqb-true, eq-eqb, lt-ltb, ltb-true}
 use lib.Dec.{leb, ltb, eqb}
+use lib.ListN.{length}
 use Rattle.memory.specs.Search.{fold}
 use Rattle.memory.proofs.Search.{picked}
 use Rattle.memory.proofs.Tests.{and-split, eq-or-ne, true-or-false, true-not-false}
 use Rattle.table.specs.declared.Counts.{Counts}
 use Rattle.table.specs.Records.{objectRecord}
-use Rattle.layer.specs.Step.{Call}
+use Rattle.layer.specs.Step.{Call, Told, toldStart, toldStop, toldSend, toldInitialise, toldNothing, lentBytes, describe}
 use Rattle.state.specs.Layout.{areaSize}
-use Rattle.trace.specs.Book.{Entry, Book, Fed, fedStart, fedStop, fedSend, fedInitialise, fedOther, fed, enter, sends, openEntry, opened, keeps, accepts, entered, advance, ownsBit, messageBit, bookBit}
+use Rattle.trace.specs.Book.{Entry, Book, enter, sends, openEntry, opened, keeps, accepts, entered, advance, ownsBit, messageBit, bookBit}
 
 abbrev pub has : ℕ → List Entry → Bool
 has i [] = false
@@ -94,18 +95,21 @@ module _ (t : List ℕ) (c : Counts) where
   abbrev FullBook : Book → Type 0
   FullBook b = Full (b .entries)
 
-  entered-full : (b : Book) → FullBook b → (f : Fed) → accepts t c b f ≡ true → FullBook (entered t c b f)
-  entered-full b x fedStart y = opened-full
-  entered-full b x fedStop y = x
-  entered-full b x (fedSend i v n) y =
+  entered-full : (b : Book) → FullBook b → (told : Told) (n : ℕ) → accepts t c b told n ≡ true → FullBook (entered t c b told)
+  entered-full b x toldStart n y = opened-full
+  entered-full b x toldStop n y = x
+  entered-full b x (toldSend i v) n y =
       picked Full (keeps t c b i v) (enter i v (b .entries)) (b .entries)
       (λ k. more i v (b .entries) (and-split (leb areaSize n && not (b .stopped)) (sends t c i) y .1) x) (λ k. x)
-  entered-full b x (fedInitialise i v) y = picked FullBook (sends t c i) _ b (λ s. more i v (b .entries) s x) (λ s. x)
-  entered-full b x fedOther y = x
+  entered-full b x (toldInitialise i v) n y = picked FullBook (sends t c i) _ b (λ s. more i v (b .entries) s x) (λ s. x)
+  entered-full b x toldNothing n y = x
 
   pub advance-full : (b : Book) → FullBook b → (call : Call) → FullBook (advance t c b call)
   unfolding advance
-  advance-full b x call = picked FullBook (accepts t c b (fed call)) (entered t c b (fed call)) b (entered-full b x (fed call)) (λ n. x)
+  advance-full b x call =
+      let told = describe call .told in
+      let n = length (lentBytes (describe call .lent)) in
+      picked FullBook (accepts t c b told n) (entered t c b told) b (entered-full b x told n) (λ no. x)
 
   -- the book after a list
   abbrev pub bookAfter : Book → List Call → Book

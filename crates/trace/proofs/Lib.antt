@@ -1,9 +1,9 @@
 pub mod Cases
-pub mod Refused
+pub mod Refusals
 pub mod Rows
 pub mod Frames
 pub mod Begin
-pub mod Never
+pub mod Answered
 pub mod Agree
 pub mod Unseen
 pub mod Kept
@@ -12,7 +12,8 @@ pub mod Hands
 pub mod Sending
 pub mod Ticked
 pub mod Opening
-pub mod Lists
+pub mod Shows
+pub mod Steps
 pub mod Calls
 pub mod Pairs
 pub mod Demand3

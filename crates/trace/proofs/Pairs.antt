@@ -6,8 +6,8 @@ use mathlib.Core.List.{List, [], _∷_}
 use mathlib.Core.Logic.{⊎-elim}
 use mathlib.Core.Path.{_≡_, refl, sym, ap, subst, _∙_}
 use Prim.Native.Nat.{ℕ, _^_, _≤_, _<_}
-use borrow.Author.Tests.{le-leb, leb-true}
-use lib.Dec.{leb}
+use native.Mathlib.Omega.{arith}
+use borrow.Author.Tests.{le-leb}
 use lib.ListN.{length}
 use Rattle.memory.specs.Bytes.{Bytes, part}
 use Rattle.memory.specs.Search.{pick}
@@ -19,37 +19,35 @@ use Rattle.table.specs.Check.{check}
 use Rattle.table.proofs.Accepted.{accepted-right}
 use Rattle.state.specs.Layout.{memorySize, slotAt, objectState, withObjectState, areaSize}
 use Rattle.state.specs.Updates.{counted}
-use Rattle.layer.specs.declared.Admission.the-variants.{Admitted, Refused}
 use Rattle.calls.specs.declared.Answer.{Answer}
-use Rattle.calls.specs.declared.Answer.the-variants.{WrongMemory, Stopped}
 use Rattle.calls.specs.Answers.{Outcome, numberOf, valueOf}
-use Rattle.layer.specs.Admission.{workingMemory, admission, ifAdmitted}
-use Rattle.layer.specs.Start.{started, startCall}
-use Rattle.calls.specs.Calls.{isObject, stopIn, sendIn, initialiseIn, receiveIn, statusIn, marksIn, clearMarksIn, periodicIn, indicationIn, confirmIn}
+use Rattle.layer.specs.Admission.{workingMemory, startAdmission, ifAdmitted}
+use Rattle.layer.specs.Start.{started}
+use Rattle.calls.specs.Calls.{isObject, sendIn}
 use Rattle.calls.specs.Tick.{tickIn}
-use Rattle.layer.specs.Step.{Call, start, stop, send, initialise, receive, status, marks, clearMarks, startPeriodic, stopPeriodic, indication, confirm, tick, step}
+use Rattle.layer.specs.Step.{Call, start, send, tick, lentBytes, longEnough, describe, step}
 use Rattle.trace.specs.Book.{Book, keeps, advance}
 use Rattle.trace.specs.Demand3.{Typed, AllTyped, wordOf, inside, Alike, same, areas, ticks, dropped, AllAlike, SameAnswer, AllSame}
 use Rattle.trace.proofs.Agree.{Agrees}
-use Rattle.trace.proofs.Unseen.{Unseen}
-use Rattle.trace.proofs.Kept.{agrees-send}
-use Rattle.trace.proofs.Others.{agrees-initialise, agrees-stop, unseen-receive, unseen-status, unseen-marks, unseen-clear, unseen-periodic, unseen-indication, unseen-confirm}
 use Rattle.trace.proofs.Hands.{Hands}
 use Rattle.trace.proofs.Sending.{send-area, send-dropped}
-use Rattle.trace.proofs.Ticked.{unseen-tick, tick-area}
+use Rattle.trace.proofs.Ticked.{tick-area}
 use Rattle.layer.proofs.Fresh.{started-length}
-use Rattle.trace.proofs.Lists.{front-of, Follows, admission-is, step-follows}
-use Rattle.trace.proofs.Calls.{step-hands}
+use Rattle.trace.proofs.Kept.{agrees-send}
+use Rattle.trace.proofs.Steps.{front-of, Follows, admissionBy, Admits, goes, stays, admits, admission-is, own-long, step-follows, step-hands}
 
 -- the same answer, and memories alike in the first 8,192 bytes
 pub record SameOutcome (o p : Outcome) : Type 0 where
   pub answer : o .answer ≡ p .answer
   pub memory : workingMemory (o .memory) ≡ workingMemory (p .memory)
 
+no-bytes : Bytes []
+no-bytes i = omega arith
+
 module _ (t : List ℕ) (c : Counts) (accepted : check t ≡ Accepted c) (bt : Bytes t) where
   -- a start leaves the same, whatever lay in memory before
   pub start-same : (m n : List ℕ) → memorySize ≤ length m → memorySize ≤ length n → SameOutcome (step t start m) (step t start n)
-  unfolding step startCall
+  unfolding step startAdmission
   start-same m n long far =
       let size = started-length t c (accepted-right t c accepted) in
       rw (accepted, le-leb memorySize (length m) long, le-leb memorySize (length n) far)
@@ -62,86 +60,62 @@ module _ (t : List ℕ) (c : Counts) (accepted : check t ≡ Accepted c) (bt : B
       memory : o .memory ≡ p .memory
       size : length (o .memory) ≡ memorySize
 
-    follow-same : (fits : Bool) (area other : List ℕ) (x y : Counts → List ℕ → Outcome) → (fits ≡ true → Inner (x c (workingMemory m)) (y c (workingMemory n)))
-        → SameOutcome (ifAdmitted (admission t m fits) m area x) (ifAdmitted (admission t n fits) n other y)
-    follow-same fits area other x y i =
-        rw (admission-is t c accepted bt b m f fits, admission-is t c accepted bt b n g fits) (cases fits (b .stopped) i)
+    -- two calls that go on alike, and give the same there
+    pair-same : (x y : Call) → admissionBy (describe x) c b ≡ admissionBy (describe y) c b
+        → ((describe x .running ≡ true → longEnough (describe x .lent) ≡ true) → Inner (describe x .does t c (workingMemory m)) (describe y .does t c (workingMemory n)))
+        → SameOutcome (step t x m) (step t y n)
+    unfolding step
+    pair-same x y e i = rw (admission-is t c accepted bt b m f (describe x), admission-is t c accepted bt b n g (describe y), sym e) (by (admits (describe x) c b))
       where
-        cases : (z s : Bool) → (z ≡ true → Inner (x c (workingMemory m)) (y c (workingMemory n)))
-            → SameOutcome (ifAdmitted (pick z (pick s (Refused Stopped) (Admitted c)) (Refused WrongMemory)) m area x)
-            (ifAdmitted (pick z (pick s (Refused Stopped) (Admitted c)) (Refused WrongMemory)) n other y)
-        cases false s j = record { answer = refl; memory = alike }
-        cases true true j = record { answer = refl; memory = alike }
-        cases true false j =
-            let k = j refl in
-            record {
+        by : Admits (describe x) c b
+            → SameOutcome (ifAdmitted (admissionBy (describe x) c b) m (lentBytes (describe x .lent)) (describe x .does t))
+            (ifAdmitted (admissionBy (describe x) c b) n (lentBytes (describe y .lent)) (describe y .does t))
+        by (goes a l on) =
+            let k = i l in
+            rw a
+            (record {
               answer = k .answer;
               memory =
-                  front-of (x c (workingMemory m) .memory) m (k .size)
+                  front-of (describe x .does t c (workingMemory m) .memory) m (k .size)
                   ∙ k .memory
-                  ∙ sym (front-of (y c (workingMemory n) .memory) n (ap length (sym (k .memory)) ∙ k .size));
-            }
+                  ∙ sym (front-of (describe y .does t c (workingMemory n) .memory) n (ap length (sym (k .memory)) ∙ k .size));
+            })
+        by (stays z a done six word off) = rw a (record { answer = refl; memory = alike })
 
-    -- ---- equal calls
-
-    inner : (x : Counts → List ℕ → Outcome) → length (x c (workingMemory m) .memory) ≡ memorySize → Inner (x c (workingMemory m)) (x c (workingMemory n))
-    inner x size =
-        record {
-          answer = ap (λ (l : List ℕ). x c l .answer) alike;
-          memory = ap (λ (l : List ℕ). x c l .memory) alike;
-          size = size;
-        }
-
-    one : (x : Counts → List ℕ → Outcome) → length (x c (workingMemory m) .memory) ≡ memorySize → SameOutcome (ifAdmitted (admission t m true) m [] x) (ifAdmitted (admission t n true) n [] x)
-    one x size = follow-same true [] [] x x (λ e. inner x size)
-
+    -- the same call
     equal-same : (call : Call) → Typed call → SameOutcome (step t call m) (step t call n)
-    unfolding step
-    equal-same start y = start-same m n (f .long) (g .long)
-    equal-same stop y = one (λ d. stopIn) (agrees-stop t c b (workingMemory m) (f .agrees) .ready .long)
-    equal-same (send i v area) y =
-        follow-same (leb areaSize (length area)) area area (λ d. sendIn t d i v area) (λ d. sendIn t d i v area)
-        (λ e. inner (λ d. sendIn t d i v area) (agrees-send t c b (workingMemory m) (f .agrees) i v y area .ready .long))
-    equal-same (initialise i v) y = one (λ d. initialiseIn t d i v) (agrees-initialise t c b (workingMemory m) (f .agrees) i v y .ready .long)
-    equal-same (receive i) y = one (λ d. receiveIn t d i) (unseen-receive t c (workingMemory m) (f .agrees .ready) i .ready .long)
-    equal-same (status i) y = one (λ d. statusIn t d i) (unseen-status t c (workingMemory m) (f .agrees .ready) i .ready .long)
-    equal-same (marks i) y = one (λ d. marksIn d i) (unseen-marks t c (workingMemory m) (f .agrees .ready) i .ready .long)
-    equal-same (clearMarks i) y = one (λ d. clearMarksIn d i) (unseen-clear t c (workingMemory m) (f .agrees .ready) i .ready .long)
-    equal-same startPeriodic y = one (λ d. periodicIn true t d) (unseen-periodic t c (workingMemory m) (f .agrees .ready) true .ready .long)
-    equal-same stopPeriodic y = one (λ d. periodicIn false t d) (unseen-periodic t c (workingMemory m) (f .agrees .ready) false .ready .long)
-    equal-same (indication k good h) y = one (λ d. indicationIn t d k good h) (unseen-indication t c (workingMemory m) (f .agrees .ready) k good h y .ready .long)
-    equal-same (confirm k good) y = one (λ d. confirmIn t d k good) (unseen-confirm t c (workingMemory m) (f .agrees .ready) k good .ready .long)
-    equal-same (tick area) y =
-        follow-same (leb areaSize (length area)) area area (λ d. tickIn t d area) (λ d. tickIn t d area)
-        (λ e. inner (λ d. tickIn t d area) (unseen-tick t c area (workingMemory m) (f .agrees .ready) (leb-true areaSize (length area) e) .ready .long))
+    equal-same call y =
+        pair-same call call refl
+        (λ l.
+        record {
+          answer = ap (λ (w : List ℕ). describe call .does t c w .answer) alike;
+          memory = ap (λ (w : List ℕ). describe call .does t c w .memory) alike;
+          size = own-long t c accepted bt b m f call y l;
+        })
 
     -- ---- another area
 
     areas-same : (i v : ℕ) → v < 2 ^ 32 → (area other : List ℕ) → length area ≡ length other → SameOutcome (step t (send i v area) m) (step t (send i v other) n)
-    unfolding step
     areas-same i v small area other e =
-        rw (sym e)
-        (follow-same (leb areaSize (length area)) area other (λ d. sendIn t d i v area) (λ d. sendIn t d i v other)
-        (λ z.
+        pair-same (send i v area) (send i v other) (rw e)
+        (λ l.
         let x = send-area t c i v area other (workingMemory m) in
         record {
-          answer = x .0 ∙ ap (λ (l : List ℕ). sendIn t c i v other l .answer) alike;
-          memory = x .1 ∙ ap (λ (l : List ℕ). sendIn t c i v other l .memory) alike;
-          size = agrees-send t c b (workingMemory m) (f .agrees) i v small area .ready .long;
-        }))
+          answer = x .0 ∙ ap (λ (w : List ℕ). sendIn t c i v other w .answer) alike;
+          memory = x .1 ∙ ap (λ (w : List ℕ). sendIn t c i v other w .memory) alike;
+          size = own-long t c accepted bt b m f (send i v area) (small, no-bytes) l;
+        })
 
     ticks-same : (area other : List ℕ) → length area ≡ length other → SameOutcome (step t (tick area) m) (step t (tick other) n)
-    unfolding step
     ticks-same area other e =
-        rw (sym e)
-        (follow-same (leb areaSize (length area)) area other (λ d. tickIn t d area) (λ d. tickIn t d other)
-        (λ z.
+        pair-same (tick area) (tick other) (rw e)
+        (λ l.
         let x = tick-area t c area other (workingMemory m) in
         record {
-          answer = x .0 ∙ ap (λ (l : List ℕ). tickIn t c other l .answer) alike;
-          memory = x .1 ∙ ap (λ (l : List ℕ). tickIn t c other l .memory) alike;
-          size = unseen-tick t c area (workingMemory m) (f .agrees .ready) (leb-true areaSize (length area) z) .ready .long;
-        }))
+          answer = x .0 ∙ ap (λ (w : List ℕ). tickIn t c other w .answer) alike;
+          memory = x .1 ∙ ap (λ (w : List ℕ). tickIn t c other w .memory) alike;
+          size = own-long t c accepted bt b m f (tick area) (tt, no-bytes) l;
+        })
 
     -- ---- dropped values
 
@@ -170,9 +144,7 @@ module _ (t : List ℕ) (c : Counts) (accepted : check t ≡ Accepted c) (bt : B
           missing out = record { answer = unfold sendIn in rw out; memory = unfold sendIn in rw out alike; size = size }
 
       dropped-same : length area ≡ length other → SameOutcome (step t (send i v area) m) (step t (send i w other) n)
-      unfolding step
-      dropped-same e =
-          rw (sym e) (follow-same (leb areaSize (length area)) area other (λ d. sendIn t d i v area) (λ d. sendIn t d i w other) (λ z. dropped-inner))
+      dropped-same e = pair-same (send i v area) (send i w other) (rw e) (λ l. dropped-inner)
 
       -- the two books enter nothing, and count alike
       dropped-book : length area ≡ length other → advance t c b (send i v area) ≡ advance t c b (send i w other)
@@ -191,7 +163,7 @@ module _ (t : List ℕ) (c : Counts) (accepted : check t ≡ Accepted c) (bt : B
         let w = equal-same x p in
         subst (Step x) e (record { outcome = w; word = ap (wordOf x) (w .answer); book = refl })
     alike-step x y p q (areas i v area other ex ey e) =
-        let small : v < 2 ^ 32 = rw ex at p in
+        let small : v < 2 ^ 32 = (subst Typed ex p) .0 in
         let w = areas-same i v small area other e in
         rw (ex, ey) (record { outcome = w; word = ap valueOf (w .answer); book = area-book i v area other e })
       where
@@ -201,8 +173,8 @@ module _ (t : List ℕ) (c : Counts) (accepted : check t ≡ Accepted c) (bt : B
         let w = ticks-same area other e in
         rw (ex, ey) (record { outcome = w; word = ap valueOf (w .answer); book = unfold advance in refl })
     alike-step x y p q (dropped i v w area other ex ey e dropv dropw none) =
-        let small : v < 2 ^ 32 = rw ex at p in
-        let little : w < 2 ^ 32 = rw ey at q in
+        let small : v < 2 ^ 32 = (subst Typed ex p) .0 in
+        let little : w < 2 ^ 32 = (subst Typed ey q) .0 in
         let z = dropped-same i v w small little area other dropv dropw none e in
         rw (ex, ey) (record { outcome = z; word = ap valueOf (z .answer); book = dropped-book i v w small little area other dropv dropw none e })
 

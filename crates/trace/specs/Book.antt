@@ -12,7 +12,7 @@ use Rattle.table.specs.declared.Counts.{Counts}
 use Rattle.table.specs.declared.ObjectRecord.{ObjectRecord}
 use Rattle.table.specs.Records.{objectRecord}
 use Rattle.table.specs.Rules.{orderOf}
-use Rattle.layer.specs.Step.{Call, start, stop, send, initialise, receive, status, marks, clearMarks, startPeriodic, stopPeriodic, indication, confirm, tick}
+use Rattle.layer.specs.Step.{Call, Told, toldStart, toldStop, toldSend, toldInitialise, toldNothing, lentBytes, describe}
 use Rattle.state.specs.Layout.{areaSize}
 
 -- an entry: a send object and a value that it kept
@@ -74,49 +74,29 @@ abbrev pub initialised : List ℕ → Counts → Book → ℕ → ℕ → Book
 initialised t c b i v =
     pick (sends t c i) (record { entries = enter i v (b .entries); counts = b .counts; stopped = b .stopped }) b
 
--- ---- a call
-
--- what the book is fed of a call; of a request area it sees the length. Other calls: nothing
-pub data Fed : Type 0 where
-  fedStart : Fed
-  fedStop : Fed
-  fedSend : (i value areaLength : ℕ) → Fed
-  fedInitialise : (i value : ℕ) → Fed
-  fedOther : Fed
-
-abbrev pub fed : Call → Fed
-fed start = fedStart
-fed stop = fedStop
-fed (send i value area) = fedSend i value (length area)
-fed (initialise i value) = fedInitialise i value
-fed (receive i) = fedOther
-fed (status i) = fedOther
-fed (marks i) = fedOther
-fed (clearMarks i) = fedOther
-fed startPeriodic = fedOther
-fed stopPeriodic = fedOther
-fed (indication k good bytes) = fedOther
-fed (confirm k good) = fedOther
-fed (tick area) = fedOther
+-- ---- a call: the book is fed what it tells, and the length of its request area
 
 -- whether a start, stop, send or initialise goes on, from the table, those arguments and stopped
-abbrev pub accepts : List ℕ → Counts → Book → Fed → Bool
-accepts t c b fedStart = true
-accepts t c b fedStop = not (b .stopped)
-accepts t c b (fedSend i v n) = leb areaSize n && not (b .stopped) && sends t c i
-accepts t c b (fedInitialise i v) = not (b .stopped) && ltb i (c .objects)
-accepts t c b fedOther = true
+abbrev pub accepts : List ℕ → Counts → Book → Told → ℕ → Bool
+accepts t c b toldStart n = true
+accepts t c b toldStop n = not (b .stopped)
+accepts t c b (toldSend i v) n = leb areaSize n && not (b .stopped) && sends t c i
+accepts t c b (toldInitialise i v) n = not (b .stopped) && ltb i (c .objects)
+accepts t c b toldNothing n = true
 
-abbrev pub entered : List ℕ → Counts → Book → Fed → Book
-entered t c b fedStart = opened t c
-entered t c b fedStop = record { entries = b .entries; counts = b .counts; stopped = true }
-entered t c b (fedSend i v n) = sent t c b i v
-entered t c b (fedInitialise i v) = initialised t c b i v
-entered t c b fedOther = b
+abbrev pub entered : List ℕ → Counts → Book → Told → Book
+entered t c b toldStart = opened t c
+entered t c b toldStop = record { entries = b .entries; counts = b .counts; stopped = true }
+entered t c b (toldSend i v) = sent t c b i v
+entered t c b (toldInitialise i v) = initialised t c b i v
+entered t c b toldNothing = b
 
 -- a refused call leaves the book alone
+abbrev pub next : List ℕ → Counts → Book → Told → ℕ → Book
+next t c b told n = pick (accepts t c b told n) (entered t c b told) b
+
 unfoldable pub advance : List ℕ → Counts → Book → Call → Book
-advance t c b call = pick (accepts t c b (fed call)) (entered t c b (fed call)) b
+advance t c b call = next t c b (describe call .told) (length (lentBytes (describe call .lent)))
 
 -- ---- frames
 

@@ -13,26 +13,22 @@ use Rattle.table.specs.declared.Counts.{Counts}
 use Rattle.table.specs.Records.{counts, ipduRecord, objectRecord}
 use Rattle.calls.specs.declared.Answer.{Answer}
 use Rattle.calls.specs.Answers.{Outcome, numberOf, valueOf}
-use Rattle.layer.specs.Step.{Call, start, stop, send, initialise, receive, status, marks, clearMarks, startPeriodic, stopPeriodic, indication, confirm, tick, step}
-use Rattle.trace.specs.Book.{Book, Fed, fedStart, fedStop, fedSend, fedInitialise, fedOther, fed, unopened, keeps, accepts, advance, bookBit}
+use Rattle.layer.specs.Step.{Call, start, send, tick, Lent, noArea, requests, lentBytes, Told, toldStart, toldStop, toldSend, toldInitialise, toldNothing, describe, step}
+use Rattle.trace.specs.Book.{Book, unopened, keeps, accepts, advance, bookBit}
 
 -- ---- calls and lists of them
 
+-- a value that is sent has 32 bits
+abbrev pub Small : Told → Type 0
+Small toldStart = Unit {0}
+Small toldStop = Unit {0}
+Small (toldSend i v) = v < 2 ^ 32
+Small (toldInitialise i v) = v < 2 ^ 32
+Small toldNothing = Unit {0}
+
 -- the arguments are of the types that a call takes: values of 32 bits, bytes. A request area may hold anything
 abbrev pub Typed : Call → Type 0
-Typed start = Unit {0}
-Typed stop = Unit {0}
-Typed (send i v area) = v < 2 ^ 32
-Typed (initialise i v) = v < 2 ^ 32
-Typed (receive i) = Unit {0}
-Typed (status i) = Unit {0}
-Typed (marks i) = Unit {0}
-Typed (clearMarks i) = Unit {0}
-Typed startPeriodic = Unit {0}
-Typed stopPeriodic = Unit {0}
-Typed (indication k good bytes) = Bytes bytes
-Typed (confirm k good) = Unit {0}
-Typed (tick area) = Unit {0}
+Typed call = Small (describe call .told) × Bytes (describe call .bytes)
 
 abbrev pub AllTyped : List Call → Type 0
 AllTyped [] = Unit {0}
@@ -43,21 +39,13 @@ done o = eqb (numberOf (o .answer)) 0
 
 -- ---- frames
 
--- the requests: the word of a send or a tick
+-- the requests: the word of a call that is lent a request area
+abbrev pub wordIn : Lent → Answer → ℕ
+wordIn noArea a = 0
+wordIn (requests area) a = valueOf a
+
 abbrev pub wordOf : Call → Answer → ℕ
-wordOf start a = 0
-wordOf stop a = 0
-wordOf (send i v area) a = valueOf a
-wordOf (initialise i v) a = 0
-wordOf (receive i) a = 0
-wordOf (status i) a = 0
-wordOf (marks i) a = 0
-wordOf (clearMarks i) a = 0
-wordOf startPeriodic a = 0
-wordOf stopPeriodic a = 0
-wordOf (indication k good bytes) a = 0
-wordOf (confirm k good) a = 0
-wordOf (tick area) a = valueOf a
+wordOf call a = wordIn (describe call .lent) a
 
 -- a frame: the first L bytes of slot k, where the word names I-PDU k
 abbrev pub frame : List ℕ → ℕ → List ℕ → List ℕ
@@ -69,16 +57,16 @@ names word k = bit word k ≡ 1
 -- ---- (a) one call, with the book before it
 
 -- whether a start, stop, send or initialise is refused follows from the book
-abbrev pub Judged : List ℕ → Counts → Book → Fed → Bool → Type 0
-Judged t c b fedStart went = went ≡ accepts t c b fedStart
-Judged t c b fedStop went = went ≡ accepts t c b fedStop
-Judged t c b (fedSend i v n) went = went ≡ accepts t c b (fedSend i v n)
-Judged t c b (fedInitialise i v) went = went ≡ accepts t c b (fedInitialise i v)
-Judged t c b fedOther went = Unit {0}
+abbrev pub Judged : List ℕ → Counts → Book → Told → ℕ → Bool → Type 0
+Judged t c b toldStart n went = went ≡ accepts t c b toldStart n
+Judged t c b toldStop n went = went ≡ accepts t c b toldStop n
+Judged t c b (toldSend i v) n went = went ≡ accepts t c b (toldSend i v) n
+Judged t c b (toldInitialise i v) n went = went ≡ accepts t c b (toldInitialise i v) n
+Judged t c b toldNothing n went = Unit {0}
 
 -- in each frame each bit is that of the value of the last entry (that call's own included) of an owner, any other bit is 0
 pub record CallKept (t : List ℕ) (c : Counts) (b : Book) (call : Call) (o : Outcome) : Type 0 where
-  pub judged : Judged t c b (fed call) (done o)
+  pub judged : Judged t c b (describe call .told) (length (lentBytes (describe call .lent))) (done o)
   pub named : (k : ℕ) → names (wordOf call (o .answer)) k → (k < c .ipdus) × (ipduRecord t k .direction ≡ 1)
   pub bits : (k : ℕ) → names (wordOf call (o .answer)) k → (p : ℕ) → p < 8 * ipduRecord t k .length
       → frameBit (frame t k (o .area)) p ≡ bookBit t c (advance t c b call .entries) k p
