@@ -17,4 +17,5 @@ pub mod Steps
 pub mod Calls
 pub mod Pairs
 pub mod Demand3
+pub mod Pins
 pub mod Entries

@@ -1,0 +1,261 @@
+-- The claims say something: their premises hold of lists that have every call, and from the theorems themselves come a frame bit that is
+-- 1, equal frames, equal values, refusals, and bytes that stay. A weaker claim does not have these.
+-- Assumes nothing.
+use mathlib.Core.Bool.{Bool, true, false, _&&_}
+use mathlib.Core.List.{List, [], _∷_}
+use mathlib.Core.Path.{_≡_, refl, ap}
+use Prim.Native.Nat.{ℕ, zero, suc, _<_}
+use native.Mathlib.Omega.{arith}
+use borrow.Author.Tests.{ltb-true, eq-eqb}
+use lib.Dec.{ltb}
+use lib.ListN.{getD, length, replicate}
+use Rattle.memory.specs.Bytes.{Bytes, value, bytesOf, part, numberAt, replaced}
+use Rattle.memory.proofs.Tests.{and-split, true-not-false}
+use Rattle.bits.specs.Bits.{bit, frameBit, place, room, number, frame, written, packed, unpacked, owns}
+use Rattle.bits.specs.Slots.{position}
+use Rattle.filter.specs.Filters.{passes, filterOf, filterRight}
+use Rattle.table.specs.Records.{counts, ipduRecord, objectRecord}
+use Rattle.table.specs.Rules.{offsetsRight, headerRight, ipduRight, references, objectRight}
+use Rattle.table.specs.Check.{shareBit, overlapsLower, check}
+use Rattle.table.specs.Decode.{ipduOf, objectOf}
+use Rattle.state.specs.Layout.{memorySize, areaSize, runningAt, withRunning, ipduState, withIpduState, objectState, withObjectState}
+use Rattle.state.specs.Ranges.{ipduInRange, objectInRange, inRange}
+use Rattle.message.specs.Objects.{marked, filtered, delivered, deliver, pack}
+use Rattle.message.specs.Delivery.{deliverInside}
+use Rattle.transmission.specs.Requests.{goes, made, offered, handed}
+use Rattle.calls.specs.Answers.{numberOf, valueOf}
+use Rattle.calls.specs.Calls.{stopIn, wants, request, sendOf, sendIn}
+use Rattle.layer.specs.Admission.{admission, startAdmission}
+use Rattle.layer.specs.Start.{blank, prepared, started}
+use Rattle.layer.specs.Step.{Call, start, stop, send, initialise, receive, status, marks, clearMarks, startPeriodic, stopPeriodic, indication, confirm, tick, toldSend, toldNothing, Told, toldStart, toldStop, toldInitialise, lentBytes, describe, step}
+use Rattle.trace.specs.Book.{Book, unopened, keeps, advance}
+use Rattle.trace.specs.Case.{pair, sendIpdu, sendObject}
+use Rattle.trace.specs.Demand3 as claim
+use Rattle.trace.specs.Demand3.{AllTyped, Alike, same, areas, ticks, dropped, AllAlike, done}
+use Rattle.trace.specs.Refusals.{IsRefused}
+use Rattle.trace.proofs.Refusals.{refused-leaves, never-6}
+use Rattle.trace.proofs.Demand3.{demand-3}
+
+-- ---- bytes, by a computed test
+
+abbrev allBytes : List ℕ → Bool
+allBytes [] = true
+allBytes (b ∷ bs) = ltb b 256 && allBytes bs
+
+tested : (bs : List ℕ) → allBytes bs ≡ true → Bytes bs
+tested [] e i = omega arith
+tested (b ∷ bs) e zero = ltb-true b 256 (and-split (ltb b 256) (allBytes bs) e .0)
+tested (b ∷ bs) e (suc i) = tested bs (and-split (ltb b 256) (allBytes bs) e .1) i
+
+-- ---- premises that hold
+
+-- a list of all calls, with the largest value and an area that holds no bytes at all
+abbrev all : List Call
+all =
+    start
+    ∷ stop
+    ∷ send 0 4294967295 (999 ∷ [])
+    ∷ initialise 0 4294967295
+    ∷ receive 0
+    ∷ status 0
+    ∷ marks 0
+    ∷ clearMarks 0
+    ∷ startPeriodic
+    ∷ stopPeriodic
+    ∷ indication 0 true (0 ∷ 255 ∷ [])
+    ∷ confirm 0 true
+    ∷ tick (999 ∷ [])
+    ∷ []
+
+none : Bytes []
+none i = omega arith
+
+pub all-typed : AllTyped all
+all-typed = (
+  (tt, none),
+  (
+    (tt, none),
+    (
+      (omega arith, none),
+      (
+        (omega arith, none),
+        ((tt, none), ((tt, none), ((tt, none), ((tt, none), ((tt, none), ((tt, none), ((tt, tested (0 ∷ 255 ∷ []) refl), ((tt, none), ((tt, none), tt))))))))),
+      ),
+    ),
+  ),
+)
+
+-- filter 10 (new above old), initial value 0
+abbrev table : List ℕ
+table = pair (sendIpdu 0 0 0 0 10) (sendObject 10 0 0)
+
+bytes : Bytes table
+unfolding bytesOf
+bytes = tested table refl
+
+abbrev here : List ℕ
+here = replicate areaSize 170
+
+abbrev there : List ℕ
+there = replicate areaSize 85
+
+-- other areas, and another value where the filter drops both
+abbrev xs : List Call
+xs = send 0 2748 here ∷ confirm 0 true ∷ send 0 3 here ∷ tick here ∷ []
+
+abbrev ys : List Call
+ys = send 0 2748 there ∷ confirm 0 true ∷ send 0 4 there ∷ tick there ∷ []
+
+typed-xs : AllTyped xs
+typed-xs = ((omega arith, none), ((tt, none), ((omega arith, none), ((tt, none), tt))))
+
+typed-ys : AllTyped ys
+typed-ys = ((omega arith, none), ((tt, none), ((omega arith, none), ((tt, none), tt))))
+
+pub alike : AllAlike table (counts table) unopened unopened (start ∷ xs) (start ∷ ys)
+unfolding value bytesOf part numberAt passes filterOf counts objectRecord advance
+alike = (
+  same refl,
+  (
+    areas 0 2748 here there refl refl refl,
+    (same refl, (dropped 0 3 4 here there refl refl refl refl refl refl, (ticks here there refl refl refl, tt))),
+  ),
+)
+
+-- ---- lists that differ in a kept value are not alike
+
+-- the object and the value of a send
+abbrev sentBy : Told → ℕ × ℕ
+sentBy (toldSend i v) = (i, v)
+sentBy toldStart = (0, 0)
+sentBy toldStop = (0, 0)
+sentBy (toldInitialise i v) = (0, 0)
+sentBy toldNothing = (0, 0)
+
+abbrev sentOf : Call → ℕ × ℕ
+sentOf call = sentBy (describe call .told)
+
+unlike-call : (b d : Book) → keeps table (counts table) b 0 5 ≡ true → Alike table (counts table) b d (send 0 5 here) (send 0 6 here) → ⊥
+unlike-call b d k (same e) = omega (arith, ap (λ (c : Call). sentOf c .1) e)
+unlike-call b d k (areas i v area other ex ey l) = omega (arith, ap (λ (c : Call). sentOf c .1) ex, ap (λ (c : Call). sentOf c .1) ey)
+unlike-call b d k (ticks area other ex ey l) = omega (arith, ap (λ (c : Call). sentOf c .1) ex)
+unlike-call b d k (dropped i v w area other ex ey l kv kw inside) =
+    true-not-false k (rw (← ap (λ (c : Call). sentOf c .0) ex, ← ap (λ (c : Call). sentOf c .1) ex) at kv)
+
+pub unlike : AllAlike table (counts table) unopened unopened (start ∷ send 0 5 here ∷ []) (start ∷ send 0 6 here ∷ []) → ⊥
+unfolding value bytesOf part numberAt passes filterOf counts objectRecord advance
+unlike a = unlike-call _ _ refl (a .1 .0)
+
+-- ---- what demand 3 gives of them
+
+abbrev after : List Call → List ℕ → List ℕ
+after [] m = m
+after (call ∷ calls) m = after calls (step table call m .memory)
+
+abbrev m : List ℕ
+m = replicate memorySize 165
+
+abbrev n : List ℕ
+n = replicate memorySize 90
+
+-- the start is accepted, over either memory
+started-m : done (step table start m) ≡ true
+unfolding
+    value bytesOf part numberAt place room owns filterRight filterOf counts ipduRecord objectRecord
+    offsetsRight headerRight ipduRight references objectRight shareBit overlapsLower check startAdmission step
+started-m = refl
+
+started-n : done (step table start n) ≡ true
+unfolding
+    value bytesOf part numberAt place room owns filterRight filterOf counts ipduRecord objectRecord
+    offsetsRight headerRight ipduRight references objectRight shareBit overlapsLower check startAdmission step
+started-n = refl
+
+-- the first send asks for I-PDU 0
+first-word : valueOf (step table (send 0 2748 here) (after (start ∷ []) m) .answer) ≡ 1
+unfolding
+    value bytesOf part numberAt replaced bit frameBit place room number frame written packed unpacked owns position passes filterOf filterRight
+    counts ipduRecord objectRecord offsetsRight headerRight ipduRight references objectRight shareBit overlapsLower check ipduOf objectOf
+    runningAt withRunning ipduState withIpduState objectState withObjectState ipduInRange objectInRange inRange marked filtered delivered deliver pack
+    deliverInside goes made offered handed wants request sendOf sendIn admission startAdmission blank prepared started step
+first-word = refl
+
+requested : claim.names (valueOf (step table (send 0 2748 here) (after (start ∷ []) m) .answer)) 0
+unfolding bit
+requested = rw first-word
+
+-- the claim of these two lists
+both : claim.AllKept table (counts table) unopened (start ∷ xs) m × (AllAlike table (counts table) unopened unopened (start ∷ xs) (start ∷ ys) → claim.AllSame table (start ∷ xs) (start ∷ ys) m n)
+both = demand-3 table bytes xs ys typed-xs typed-ys m n started-m started-n
+
+-- bit 24 of the first frame is 1 (case 1: 00 80 57 01)
+pub first-frame : frameBit (claim.frame table 0 (step table (send 0 2748 here) (after (start ∷ []) m) .area)) 24 ≡ 1
+unfolding value bytesOf part numberAt bit place owns passes filterOf counts ipduRecord objectRecord advance
+first-frame = both .0 .1 .0 .bits 0 requested 24 (omega arith)
+
+-- that I-PDU is a send I-PDU of the table
+pub first-named : (0 < counts table .ipdus) × (ipduRecord table 0 .direction ≡ 1)
+first-named = both .0 .1 .0 .named 0 requested
+
+-- the same frame from other memory and another area, the same answer to the dropped value
+pub same-frame : claim.frame table 0 (step table (send 0 2748 here) (after (start ∷ []) m) .area)
+    ≡ claim.frame table 0 (step table (send 0 2748 there) (after (start ∷ []) n) .area)
+same-frame = both .1 alike .1 .0 .frames 0 requested
+
+pub same-value : valueOf (step table (send 0 3 here) (after (start ∷ send 0 2748 here ∷ confirm 0 true ∷ []) m) .answer)
+    ≡ valueOf (step table (send 0 4 there) (after (start ∷ send 0 2748 there ∷ confirm 0 true ∷ []) n) .answer)
+same-value = both .1 alike .1 .1 .1 .0 .value
+
+-- ---- refusals
+
+-- a stopped layer refuses a send
+abbrev stopped : List ℕ
+stopped = after (start ∷ stop ∷ []) m
+
+pub stopped-send : done (step table (send 0 1 here) stopped) ≡ false
+unfolding value bytesOf part numberAt counts objectRecord advance
+stopped-send =
+    demand-3 table bytes (stop ∷ send 0 1 here ∷ []) [] ((tt, none), ((omega arith, none), tt)) tt m m started-m started-m .0 .1 .1 .0 .judged
+
+refused-send : IsRefused (send 0 1 here) (step table (send 0 1 here) stopped)
+refused-send = (
+  λ e. true-not-false (eq-eqb (numberOf (step table (send 0 1 here) stopped .answer)) 0 e) stopped-send,
+  λ three i e. omega (arith, ap (λ (c : Call). length (lentBytes (describe c .lent))) e),
+)
+
+-- and changes no byte
+pub stopped-send-leaves : step table (send 0 1 here) stopped .memory ≡ stopped
+stopped-send-leaves = refused-leaves table (send 0 1 here) stopped refused-send .memory
+
+pub stopped-send-leaves-area : step table (send 0 1 here) stopped .area ≡ here
+stopped-send-leaves-area = refused-leaves table (send 0 1 here) stopped refused-send .area
+
+-- a status that answers 3 is refused, and changes no byte
+abbrev calledBy : Call → ℕ
+calledBy start = 0
+calledBy stop = 0
+calledBy (send i v area) = 0
+calledBy (initialise i v) = 0
+calledBy (receive i) = 1
+calledBy (status i) = 0
+calledBy (marks i) = 0
+calledBy (clearMarks i) = 0
+calledBy startPeriodic = 0
+calledBy stopPeriodic = 0
+calledBy (indication k good bytes) = 0
+calledBy (confirm k good) = 0
+calledBy (tick area) = 0
+
+pub status-leaves : (t m : List ℕ) (i : ℕ) → numberOf (step t (status i) m .answer) ≡ 3 → step t (status i) m .memory ≡ m
+status-leaves t m i three = refused-leaves t (status i) m ((λ zero. omega (arith, three, zero)), λ e j c. omega (arith, ap calledBy c)) .memory
+
+-- no 6 with a long enough area
+pub second-not-6 : numberOf (step table (send 0 1 here) (after (start ∷ tick here ∷ []) m) .answer) ≡ 6 → ⊥
+second-not-6 = never-6 table bytes (tick here ∷ send 0 1 here ∷ []) ((tt, none), ((omega arith, none), tt)) m started-m .1 .0 refl
+
+-- memory of zeros is a stopped layer of this table
+pub zeros-stopped : numberOf (step table (marks 0) (replicate memorySize 0) .answer) ≡ 7
+unfolding
+    value bytesOf part numberAt place room owns filterRight filterOf counts ipduRecord objectRecord offsetsRight headerRight ipduRight references
+    objectRight shareBit overlapsLower check ipduOf runningAt ipduState objectState ipduInRange objectInRange inRange admission step
+zeros-stopped = refl
