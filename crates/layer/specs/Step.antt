@@ -96,3 +96,8 @@ step t call m = ifAdmitted (admissionFor (describe call) t m) m (lentBytes (desc
 abbrev pub run : List ℕ → List Call → List ℕ → List Outcome
 run t [] m = []
 run t (call ∷ calls) m = step t call m ∷ run t calls (step t call m .memory)
+
+-- the working memory that it leaves
+abbrev pub memoryAfter : List ℕ → List Call → List ℕ → List ℕ
+memoryAfter t [] m = m
+memoryAfter t (call ∷ calls) m = memoryAfter t calls (step t call m .memory)

@@ -18,7 +18,7 @@ use Rattle.table.specs.declared.Counts.{Counts}
 use Rattle.table.specs.Records.{objectRecord}
 use Rattle.layer.specs.Step.{Call, Told, toldStart, toldStop, toldSend, toldInitialise, toldNothing, lentBytes, describe}
 use Rattle.state.specs.Layout.{areaSize}
-use Rattle.trace.specs.Book.{Entry, Book, enter, sends, openEntry, opened, keeps, accepts, entered, advance, ownsBit, messageBit, bookBit}
+use Rattle.trace.specs.Book.{Entry, Book, enter, sends, openEntry, opened, keeps, accepts, entered, advance, bookAfter, ownsBit, messageBit, bookBit}
 
 abbrev pub has : ℕ → List Entry → Bool
 has i [] = false
@@ -111,17 +111,12 @@ module _ (t : List ℕ) (c : Counts) where
       let n = length (lentBytes (describe call .lent)) in
       picked FullBook (accepts t c b told n) (entered t c b told) b (entered-full b x told n) (λ no. x)
 
-  -- the book after a list
-  abbrev pub bookAfter : Book → List Call → Book
-  bookAfter b [] = b
-  bookAfter b (call ∷ calls) = bookAfter (advance t c b call) calls
-
-  after-full : (calls : List Call) (b : Book) → FullBook b → FullBook (bookAfter b calls)
+  after-full : (calls : List Call) (b : Book) → FullBook b → FullBook (bookAfter t c b calls)
   after-full [] b x = x
   after-full (call ∷ calls) b x = after-full calls (advance t c b call) (advance-full b x call)
 
   -- every list that begins with a start
-  pub started-full : (calls : List Call) → Full (bookAfter (opened t c) calls .entries)
+  pub started-full : (calls : List Call) → Full (bookAfter t c (opened t c) calls .entries)
   started-full calls = after-full calls (opened t c) opened-full
 
   -- ---- the bits of a frame, as document 01 says them

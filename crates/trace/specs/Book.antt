@@ -98,6 +98,11 @@ next t c b told n = pick (accepts t c b told n) (entered t c b told) b
 unfoldable pub advance : List ℕ → Counts → Book → Call → Book
 advance t c b call = next t c b (describe call .told) (length (lentBytes (describe call .lent)))
 
+-- the book after a list of calls
+abbrev pub bookAfter : List ℕ → Counts → Book → List Call → Book
+bookAfter t c b [] = b
+bookAfter t c b (call ∷ calls) = bookAfter t c (advance t c b call) calls
+
 -- ---- frames
 
 -- the object owns bit p of I-PDU k: its message bits go there

@@ -3,3 +3,4 @@ pub mod Cases
 pub mod Book
 pub mod Demand3
 pub mod Refusals
+pub mod RoundTrip
