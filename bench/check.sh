@@ -28,6 +28,6 @@ sed -n 's/^\([a-z_]*\):.*/\1/p' crates.txt | while read -r crate; do timed "$cra
 awk '{ wall += $2; cpu += $3 } END { printf "%-14s %7.1f %7.1f\n", "total", wall, cpu }' "$out/rows"
 edit memory Rows.antt
 edit memory write64/Proof.antt
-edit layer Laws.antt
-edit layer sending/send_checked/Proof.antt
+edit layer Admitted.antt
+edit calls sending/send/Proof.antt
 ! grep 'not proved' "$out/rows" >&2
