@@ -1,4 +1,3 @@
-pub mod Cases
 pub mod Refusals
 pub mod Rows
 pub mod Frames

@@ -29,7 +29,7 @@ use Rattle.layer.specs.Admission.{admission, startAdmission}
 use Rattle.layer.specs.Start.{blank, prepared, started}
 use Rattle.layer.specs.Step.{Call, start, stop, send, initialise, receive, status, marks, clearMarks, startPeriodic, stopPeriodic, indication, confirm, tick, toldSend, toldNothing, Told, toldStart, toldStop, toldInitialise, lentBytes, describe, step}
 use Rattle.trace.specs.Book.{Book, unopened, keeps, advance}
-use Rattle.trace.specs.Case.{pair, sendIpdu, sendObject}
+use Rattle.cases.specs.Case.{pair, sendIpdu, sendObject}
 use Rattle.trace.specs.Demand3 as claim
 use Rattle.trace.specs.Demand3.{AllTyped, Alike, same, areas, ticks, dropped, AllAlike, done}
 use Rattle.trace.specs.Refusals.{IsRefused}

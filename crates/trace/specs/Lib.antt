@@ -1,5 +1,3 @@
-pub mod Case
-pub mod Cases
 pub mod Book
 pub mod Demand3
 pub mod Refusals

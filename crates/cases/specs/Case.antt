@@ -1,14 +1,17 @@
--- The form of a proved case: a packing, a room, a verdict of the check, or a list of calls with what each answers and hands over.
+-- The form of a proved case: a packing, a room, the values that a filter passes, a verdict of the check, or a list of calls with what
+-- each answers and hands over.
 -- Tables are put together from records. Working memory is one list of 8,192 equal bytes, nonzero before the start.
 -- Assumes nothing.
-use mathlib.Core.Bool.{Bool, true, false}
+use mathlib.Core.Bool.{Bool}
 use mathlib.Core.List.{List, [], _∷_, _++_}
 use mathlib.Core.Path.{_≡_}
 use Prim.Native.Nat.{ℕ, suc, _+_, _*_}
-use lib.ListN.{length, replicate}
+use lib.ListN.{replicate}
 use Rattle.memory.specs.Bytes.{bytesOf, part}
+use Rattle.memory.specs.Search.{pick}
 use Rattle.bits.specs.declared.Order.{Order}
 use Rattle.bits.specs.Bits.{room, packed, unpacked}
+use Rattle.filter.specs.Filters.{passes, filterOf}
 use Rattle.table.specs.declared.Verdict.{Verdict}
 use Rattle.table.specs.Records.{tableLength}
 use Rattle.table.specs.Check.{check}
@@ -32,10 +35,12 @@ abbrev pub shows : Call → ℕ → ℕ → List ℕ → List ℕ → Line
 shows call number value slots bytes = record { call = call; number = number; value = value; slots = slots; bytes = bytes }
 
 -- a value of some bits at a start bit in L zero bytes, the frame that it gives and what unpacks from that; whether so many bits
--- at a start bit fit L bytes; what the check answers to a table; or a table and a list of calls with what each answers
+-- at a start bit fit L bytes; a filter with its constants, old and occurrence, some values and those of them that pass; what the
+-- check answers to a table; or a table and a list of calls with what each answers
 pub data Case : Type 0 where
   packs : Order → (n size value L : ℕ) → List ℕ → (back : ℕ) → Case
   fits : Order → (n size L : ℕ) → Bool → Case
+  passing : (filter first second old occurrence : ℕ) (values passed : List ℕ) → Case
   checks : (table : List ℕ) → Verdict → Case
   answers : (table : List ℕ) → List Line → Case
 
@@ -58,9 +63,17 @@ answered [] os = []
 answered (l ∷ ls) [] = []
 answered (l ∷ ls) (o ∷ os) = (numberOf (o .answer) ∷ valueOf (o .answer) ∷ slotsOf (l .slots) (o .area)) ∷ answered ls os
 
+-- the values that pass a filter, each given the same old and occurrence
+abbrev pub passedOf : (filter first second old occurrence : ℕ) → List ℕ → List ℕ
+passedOf filter first second old occurrence [] = []
+passedOf filter first second old occurrence (new ∷ vs) =
+    pick (passes (filterOf filter first second) new old occurrence) (new ∷ passedOf filter first second old occurrence vs)
+    (passedOf filter first second old occurrence vs)
+
 abbrev pub Holds : Case → Type 0
 Holds (packs o n size v L f back) = (packed o n size v (replicate L 0) ≡ f) × (unpacked o n size f ≡ back)
 Holds (fits o n size L answer) = room o n size L ≡ answer
+Holds (passing filter first second old occurrence values passed) = passedOf filter first second old occurrence values ≡ passed
 Holds (checks table verdict) = check table ≡ verdict
 Holds (answers table lines) = answered lines (run table (callsOf lines) (replicate memorySize 165)) ≡ expected lines
 

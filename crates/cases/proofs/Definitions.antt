@@ -1,0 +1,58 @@
+-- What a proved case is computed from: every definition that a filter, the check or a call goes through. To unfold one of the names
+-- below is to unfold all that its line names. Assumes nothing.
+use Rattle.memory.specs.Bytes.{value, bytesOf, part, numberAt, replaced}
+use Rattle.bits.specs.Bits.{bit, frameBit, place, room, number, frame, written, packed, unpacked, owns}
+use Rattle.bits.specs.Slots.{position}
+use Rattle.filter.specs.Filters.{passes, filterOf, filterRight}
+use Rattle.table.specs.Records.{counts, ipduRecord, objectRecord}
+use Rattle.table.specs.Rules.{offsetsRight, headerRight, ipduRight, references, objectRight}
+use Rattle.table.specs.Check.{shareBit, overlapsLower, check}
+use Rattle.table.specs.Decode.{ipduOf, objectOf}
+use Rattle.state.specs.Layout.{runningAt, withRunning, ipduState, withIpduState, objectState, withObjectState}
+use Rattle.state.specs.Ranges.{ipduInRange, objectInRange, inRange}
+use Rattle.message.specs.Objects.{marked, filtered, delivered, deliver, oldest, dequeue, pack, unpack, initialise}
+use Rattle.message.specs.Delivery.{deliverInside, deliverFrame, markObjects}
+use Rattle.transmission.specs.Requests.{goes, made, offered, handed, confirmed, periodSet, setPeriods, timerSet}
+use Rattle.transmission.specs.Ticks.{delayed, expires, aged, fires, countedDown, late, watched}
+use Rattle.layer.specs.Admission.{admission, startAdmission}
+use Rattle.calls.specs.Calls.{stopIn, wants, request, sendOf, sendIn, initialiseIn, receiveIn, statusIn, marksIn, clearMarksIn, periodicIn, indicationIn, confirmIn}
+use Rattle.calls.specs.Tick.{tickIpdu, tickIn}
+use Rattle.layer.specs.Start.{blank, prepared, started}
+use Rattle.layer.specs.Step.{step}
+
+unfoldable bitDefinitions : Unit {0}
+unfolding value bytesOf part numberAt replaced bit frameBit place room number frame written packed unpacked owns position
+bitDefinitions = tt
+
+unfoldable checkDefinitions : Unit {0}
+unfolding passes filterOf filterRight counts ipduRecord objectRecord offsetsRight headerRight ipduRight references objectRight shareBit overlapsLower check ipduOf objectOf
+checkDefinitions = tt
+
+unfoldable stateDefinitions : Unit {0}
+unfolding runningAt withRunning ipduState withIpduState objectState withObjectState ipduInRange objectInRange inRange
+stateDefinitions = tt
+
+unfoldable messageDefinitions : Unit {0}
+unfolding marked filtered delivered deliver oldest dequeue pack unpack initialise deliverInside deliverFrame markObjects
+messageDefinitions = tt
+
+unfoldable requestDefinitions : Unit {0}
+unfolding goes made offered handed confirmed periodSet setPeriods timerSet delayed expires aged fires countedDown late watched
+requestDefinitions = tt
+
+unfoldable callDefinitions : Unit {0}
+unfolding admission startAdmission stopIn wants request sendOf sendIn initialiseIn receiveIn statusIn marksIn clearMarksIn periodicIn indicationIn confirmIn tickIpdu tickIn
+callDefinitions = tt
+
+unfoldable startDefinitions : Unit {0}
+unfolding blank prepared started step
+startDefinitions = tt
+
+unfoldable pub definitions : Unit {0}
+unfolding bitDefinitions checkDefinitions stateDefinitions messageDefinitions requestDefinitions callDefinitions startDefinitions
+definitions = tt
+
+-- a pair: what holds of a list's first case, and of the others
+infixr 4 _&_
+abbrev pub _&_ : {A B : Type 0} → A → B → A × B
+a & b = (a, b)

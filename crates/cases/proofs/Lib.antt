@@ -1,0 +1,9 @@
+pub mod Definitions
+pub mod Computed
+pub mod Cases
+pub mod FilterRules
+pub mod CallRules
+pub mod TimingRules
+pub mod AnswerRules
+pub mod CheckRules
+pub mod Rules

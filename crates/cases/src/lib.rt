@@ -1,0 +1,1 @@
+// Proved cases: definitions in specs/, proofs in proofs/, no code.
