@@ -71,14 +71,6 @@ module _ (t : List ℕ) (c : Counts) where
   offer-from right k h area l m o same (quiet v a) = quiet v a
   offer-from right k h area l m o same (requested d v a) = requested d v (a ∙ handed-same (ipduRecord t k .length) k l m area (ipdu-short t c right k h) (same d))
 
-  -- the frame of an I-PDU that was requested
-  pub offer-frame : Right t c → (k : ℕ) → k < c .ipdus → (area m : List ℕ) → areaSize ≤ length area → length m ≡ memorySize → (o : Outcome)
-      → Offer k area m o → (valueOf (o .answer) ≡ 0 → ⊥) → part (8 * k) (ipduRecord t k .length) (o .area) ≡ part (slotAt k) (ipduRecord t k .length) m
-  offer-frame right k h area m fits size o (quiet v a) made = absurd (made v)
-  offer-frame right k h area m fits size o (requested d v a) made =
-      let low : k < 32 = omega (arith, h, right .shape .ipdus) in
-      rw a (handed-front (ipduRecord t k .length) k m area (ipdu-short t c right k h) low fits (omega (arith, low, size)))
-
   -- the request that a passed value wants
   pub request-offer : Right t c → (i : ℕ) → isObject t c 1 i ≡ true → wants t (object t c i) ≡ true → (area m : List ℕ)
       → Offer (objectRecord t (c .ipdus) i .ipdu) area m (request t (object t c i) area m)

@@ -18,3 +18,6 @@ pub mod Pairs
 pub mod Demand3
 pub mod Pins
 pub mod Entries
+pub mod RoundTrip
+pub mod Receivers
+pub mod Arrivals

@@ -1,8 +1,8 @@
--- What a send leaves of other objects' rows, and what a hand-over leaves of the area.
+-- What packing and a request leave of working memory, and what a hand-over leaves of the area.
 -- Assumes nothing.
-use mathlib.Core.Bool.{Bool, true, false}
+use mathlib.Core.Bool.{true, false}
 use mathlib.Core.List.{List, _++_}
-use mathlib.Core.Logic.{_⊎_, inl, inr, ⊎-elim}
+use mathlib.Core.Logic.{inl, inr, ⊎-elim}
 use mathlib.Core.Path.{_≡_, sym, ap, _∙_}
 use Prim.Native.Nat.{ℕ, _+_, _-_, _*_, _≤_, _<_}
 use native.Mathlib.Omega.{arith}
@@ -14,37 +14,35 @@ use Rattle.memory.proofs.Laws.{part-apart, part-replaced, part-length, part-fro
 use Rattle.memory.proofs.Tests.{true-or-false}
 use Rattle.bits.specs.Bits.{packed}
 use Rattle.table.specs.declared.Object.{Object}
-use Rattle.table.specs.declared.Ipdu.{Ipdu}
 use Rattle.table.specs.Records.{absent}
-use Rattle.state.specs.declared.IpduState.{IpduState}
-use Rattle.state.specs.Layout.{runningAt, slotAt, ipduRow, ipduState, objectRow, objectState}
+use Rattle.state.specs.Layout.{runningAt, objectRows, slotAt, ipduState, objectRow, objectState}
 use Rattle.state.specs.Updates.{withWanted}
-use Rattle.state.proofs.Laws.{ipdu-keeps-objects, object-read}
+use Rattle.state.proofs.Laws.{ipdu-part, object-read}
 use Rattle.message.specs.Objects.{Placed, startBit, pack}
 use Rattle.message.proofs.Kept.{pack-room, packed-slot-length}
 use Rattle.transmission.specs.Requests.{ipdu, offered, handed}
-use Rattle.calls.specs.Calls.{HasIpdu, wants, request}
+use Rattle.calls.specs.Calls.{wants, request}
 use Rattle.calls.proofs.Records.{wants-some}
 
 -- ---- packing
 
 module _ (o : Object) (v : ℕ) (m : List ℕ) (placed : Placed o m) where
-  -- packing changes no row of an object
-  pub pack-row : (j : ℕ) → objectState (pack o v m) j ≡ objectState m j
+  -- packing changes nothing from the objects' rows on
+  pub pack-behind : (at w : ℕ) → objectRows ≤ at → part at w (pack o v m) ≡ part at w m
   unfolding pack
-  pack-row j =
+  pack-behind at w high =
       ⊎-elim
       (λ (e : eqb (o .ipdu .0) absent ≡ true). rw e)
       (λ (e : eqb (o .ipdu .0) absent ≡ false).
-      let low = placed .ipdu e in
       let size = packed-slot-length o v m placed e in
       rw e
-      (object-read
-      (replaced (slotAt (o .ipdu .0)) (packed (o .order) (startBit o) (o .size .0) v (part (slotAt (o .ipdu .0)) 8 m)) m) m j
-      (λ p w b.
-      part-apart (slotAt (o .ipdu .0)) (packed (o .order) (startBit o) (o .size .0) v (part (slotAt (o .ipdu .0)) 8 m)) m (objectRow j + p) w
-      (omega (arith, size, pack-room o v m placed e)) (inr (omega (arith, size, low))))))
+      (part-apart (slotAt (o .ipdu .0)) (packed (o .order) (startBit o) (o .size .0) v (part (slotAt (o .ipdu .0)) 8 m)) m at w
+      (omega (arith, size, pack-room o v m placed e)) (inr (omega (arith, size, placed .ipdu e, high)))))
       (true-or-false (eqb (o .ipdu .0) absent))
+
+  -- and so no row of an object
+  pub pack-row : (j : ℕ) → objectState (pack o v m) j ≡ objectState m j
+  pack-row j = object-read (pack o v m) m j (λ p w b. pack-behind (objectRow j + p) w (omega arith))
 
   -- packing leaves the byte of a stopped layer
   pub pack-front : runningAt (pack o v m) ≡ runningAt m
@@ -72,20 +70,19 @@ module _ (o : Object) (v : ℕ) (m : List ℕ) (placed : Placed o m) where
 
 -- ---- requests
 
--- a request changes no row of an object
-pub request-row : (t : List ℕ) (o : Object) (area m : List ℕ) → Placed o m → wants t o ≡ true → (j : ℕ)
-    → objectState (request t o area m .memory) j ≡ objectState m j
+-- with or without a request, nothing changes from the objects' rows on
+pub request-behind : (t : List ℕ) (o : Object) (area m : List ℕ) → Placed o m → (at w : ℕ) → objectRows ≤ at
+    → part at w (request t o area m .memory) ≡ part at w m
 unfolding request
-request-row t o area m placed e j = rw e (ipdu-keeps-objects m (o .ipdu .0) (offered (ipdu t (o .ipdu .0)) (withWanted 1 (ipduState m (o .ipdu .0)))) room low j)
-  where
-    some : eqb (o .ipdu .0) absent ≡ false
-    some = wants-some t o e
-
-    low : o .ipdu .0 < 32
-    low = placed .ipdu some
-
-    room : ipduRow (o .ipdu .0) + 16 ≤ length m
-    room = omega (arith, low, placed .long)
+request-behind t o area m placed at w high =
+    ⊎-elim
+    (λ (e : wants t o ≡ true).
+    let low = placed .ipdu (wants-some t o e) in
+    rw e
+    (ipdu-part m (o .ipdu .0) (offered (ipdu t (o .ipdu .0)) (withWanted 1 (ipduState m (o .ipdu .0)))) (omega (arith, low, placed .long)) at w
+    (inr (omega (arith, low, high)))))
+    (λ (e : wants t o ≡ false). rw e)
+    (true-or-false (wants t o))
 
 -- what is handed over: eight bytes of the slot's
 module _ (size k : ℕ) (m area : List ℕ) (few : size ≤ 8) (low : k < 32) (long : 256 ≤ length area) (room : slotAt k + 8 ≤ length m) where
@@ -121,13 +118,3 @@ unfolding handed
 handed-same size k l m area few e =
     ap (λ (f : List ℕ). replaced (8 * k) (f ++ replicate (8 - size) 0) area)
     (sym (part-front (slotAt k) size 8 l few) ∙ ap (take size) e ∙ part-front (slotAt k) size 8 m few)
-
--- with or without a request, no row of an object changes
-pub request-rows : (t : List ℕ) (o : Object) (area m : List ℕ) → Placed o m → (j : ℕ)
-    → objectState (request t o area m .memory) j ≡ objectState m j
-unfolding request
-request-rows t o area m placed j =
-    ⊎-elim
-    (λ (w : wants t o ≡ true). request-row t o area m placed w j)
-    (λ (w : wants t o ≡ false). rw w)
-    (true-or-false (wants t o))

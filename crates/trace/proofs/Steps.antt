@@ -2,7 +2,7 @@
 -- I-PDUs, and whether it is done follows from the book.
 -- Assumes: the table holds bytes, and arguments are of the types that the calls take (`Typed`).
 use mathlib.Core.Bool.{Bool, true, false, not, _&&_}
-use mathlib.Core.List.{List, [], _++_}
+use mathlib.Core.List.{List, [], _∷_, _++_}
 use mathlib.Core.Logic.{⊎-elim}
 use mathlib.Core.Path.{_≡_, refl, sym, ap, subst, _∙_}
 use Prim.Native.Nat.{ℕ, _+_, _≤_}
@@ -29,9 +29,10 @@ use Rattle.layer.specs.declared.Admission.{Admission}
 use Rattle.layer.specs.declared.Admission.the-variants.{Admitted, Refused}
 use Rattle.layer.specs.Admission.{workingMemory, admission, startAdmissionOf, startAdmission, ifAdmitted}
 use Rattle.layer.specs.Start.{started, startIn}
-use Rattle.layer.specs.Step.{Call, start, Lent, noArea, requests, lentBytes, longEnough, Told, toldStart, toldStop, toldSend, toldInitialise, toldNothing, Description, describe, admissionFor, step}
-use Rattle.trace.specs.Book.{Book, opened, entered, next, advance}
-use Rattle.trace.specs.Demand3.{Typed, done, wordIn, wordOf, Judged}
+use Rattle.layer.specs.Step.{Call, start, Lent, noArea, requests, lentBytes, longEnough, Told, toldStart, toldStop, toldSend, toldInitialise, toldNothing}
+use Rattle.layer.specs.Step.{Description, describe, admissionFor, step, memoryAfter}
+use Rattle.trace.specs.Book.{Book, opened, entered, next, advance, bookAfter}
+use Rattle.trace.specs.Demand3.{Typed, AllTyped, done, wordIn, wordOf, Judged}
 use Rattle.trace.proofs.Agree.{Agrees}
 use Rattle.trace.proofs.Hands.{Hands}
 use Rattle.trace.proofs.Opening.{agrees-start}
@@ -205,3 +206,10 @@ module _ (t : List ℕ) (c : Counts) (accepted : check t ≡ Accepted c) (bt : B
                 (workingMemory (ifAdmitted (admissionBy (describe call) c b) m (lentBytes (describe call .lent)) (describe call .does t) .memory))
             by (goes e l on) = rw (e, front-of (own .memory) m (own-long l)) (shows t c call .frames (workingMemory m) (f .agrees .ready) (y .0) l)
             by (stays a e done six word off) = rw (e, no-word (describe call .lent) a word) (hands-zero t c _ _)
+
+  -- ---- a list of calls
+
+  pub list-follows : (calls : List Call) → AllTyped calls → (b : Book) (m : List ℕ) → Follows t c b m
+      → Follows t c (bookAfter t c b calls) (memoryAfter t calls m)
+  list-follows [] y b m f = f
+  list-follows (call ∷ calls) y b m f = list-follows calls (y .1) (advance t c b call) (step t call m .memory) (step-follows b m f call (y .0))
