@@ -7,7 +7,7 @@ use Prim.Native.Nat.{ℕ, zero, suc, _+_, _-_, _*_, _/_, _%_, _^_, _≤_, _<_}
 use native.Mathlib.Nat.{le-of-suc-le-suc, not-suc-le-zero}
 use native.Mathlib.Omega.{arith}
 use lib.ListN.{length, getD, take}
-use Rattle.bits.specs.Bits.{bit, number, frameBit, frame}
+use Rattle.bits.specs.Bits.{bit, number, frameBit, frameOf}
 use Rattle.memory.specs.Bytes.{Bytes, value, bytesOf}
 use Rattle.memory.proofs.Tests.{lt-or-le}
 use Rattle.bits.proofs.Numbers.{bit-lt, bit-of-zero, bit-low, bit-high, bit-mod, bit-div, number-ext, number-bit, number-lt, number-bits}
@@ -37,13 +37,13 @@ by-byte P first rest p =
     (λ h. let e : 8 + (p - 8) ≡ p = omega arith in rw e at (rest (p - 8)))
     (lt-or-le p 8)
 
-pub frame-length : (L : ℕ) (b : ℕ → ℕ) → length (frame L b) ≡ L
-unfolding frame
+pub frame-length : (L : ℕ) (b : ℕ → ℕ) → length (frameOf L b) ≡ L
+unfolding frameOf
 frame-length zero b = refl
 frame-length (suc L) b = ap suc (frame-length L (λ k. b (8 + k)))
 
-pub frame-ext : (L : ℕ) (b c : ℕ → ℕ) → ((p : ℕ) → p < 8 * L → b p ≡ c p) → frame L b ≡ frame L c
-unfolding frame
+pub frame-ext : (L : ℕ) (b c : ℕ → ℕ) → ((p : ℕ) → p < 8 * L → b p ≡ c p) → frameOf L b ≡ frameOf L c
+unfolding frameOf
 frame-ext zero b c e = refl
 frame-ext (suc L) b c e =
     cc (
@@ -51,24 +51,24 @@ frame-ext (suc L) b c e =
       frame-ext L (λ k. b (8 + k)) (λ k. c (8 + k)) (λ p h. e (8 + p) (omega arith)),
     )
 
-pub frame-bit : (L : ℕ) (b : ℕ → ℕ) → ((i : ℕ) → b i < 2) → (p : ℕ) → p < 8 * L → frameBit (frame L b) p ≡ b p
-unfolding frame
+pub frame-bit : (L : ℕ) (b : ℕ → ℕ) → ((i : ℕ) → b i < 2) → (p : ℕ) → p < 8 * L → frameBit (frameOf L b) p ≡ b p
+unfolding frameOf
 frame-bit zero b two p h = absurd (not-suc-le-zero {n = p} (omega arith))
 frame-bit (suc L) b two p h =
-    by-byte (λ p. p < 8 * suc L → frameBit (number 8 b ∷ frame L (λ k. b (8 + k))) p ≡ b p)
+    by-byte (λ p. p < 8 * suc L → frameBit (number 8 b ∷ frameOf L (λ k. b (8 + k))) p ≡ b p)
     (λ p h _. frameBit-head _ _ p h ∙ number-bit b two 8 p h)
     (λ p h. frameBit-tail _ _ p ∙ frame-bit L (λ k. b (8 + k)) (λ k. two (8 + k)) p (omega arith))
     p
     h
 
-pub frame-bytes : (L : ℕ) (b : ℕ → ℕ) → ((i : ℕ) → b i < 2) → Bytes (frame L b)
-unfolding frame
+pub frame-bytes : (L : ℕ) (b : ℕ → ℕ) → ((i : ℕ) → b i < 2) → Bytes (frameOf L b)
+unfolding frameOf
 frame-bytes zero b two i = omega arith
 frame-bytes (suc L) b two zero = number-lt b two 8
 frame-bytes (suc L) b two (suc i) = frame-bytes L (λ k. b (8 + k)) (λ k. two (8 + k)) i
 
-pub frame-take : (L M : ℕ) (b : ℕ → ℕ) → L ≤ M → take L (frame M b) ≡ frame L b
-unfolding frame
+pub frame-take : (L M : ℕ) (b : ℕ → ℕ) → L ≤ M → take L (frameOf M b) ≡ frameOf L b
+unfolding frameOf
 frame-take zero M b h = refl
 frame-take (suc L) zero b h = absurd (not-suc-le-zero h)
 frame-take (suc L) (suc M) b h = ap (λ (f : List ℕ). number 8 b ∷ f) (frame-take L M (λ k. b (8 + k)) (le-of-suc-le-suc h))
@@ -83,8 +83,8 @@ value-bit (b ∷ f) bs p =
     (λ p. bit-high 8 b (value f) p (bs 0) ∙ value-bit f (λ i. bs (suc i)) p ∙ sym (frameBit-tail b f p))
     p
 
-pub bytesOf-frame : (k w : ℕ) → bytesOf k w ≡ frame k (bit w)
-unfolding bytesOf frame
+pub bytesOf-frame : (k w : ℕ) → bytesOf k w ≡ frameOf k (bit w)
+unfolding bytesOf frameOf
 bytesOf-frame zero w = refl
 bytesOf-frame (suc k) w =
     cc

@@ -2,6 +2,6 @@ pub mod Numbers
 pub mod Frames
 pub mod Places
 pub mod Slots
-pub mod Laws
+pub mod RoundTrip
 pub mod Words
 pub mod Masks

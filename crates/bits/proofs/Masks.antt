@@ -16,7 +16,7 @@ use Rattle.memory.specs.Bytes.{Bytes, value, bytesOf}
 use Rattle.memory.specs.Search.{pick, anyBelow}
 use Rattle.memory.proofs.Search.{any-none, any-some, any-false}
 use Rattle.memory.proofs.Tests.{lt-or-le, true-or-false, true-not-false}
-use Rattle.memory.proofs.Laws.{bytesOf-length}
+use Rattle.memory.proofs.Parts.{bytesOf-length}
 use Rattle.bits.specs.declared.Order.{Order}
 use Rattle.bits.specs.declared.Order.the-variants.{Little, Big}
 use Rattle.bits.specs.Bits.{bit, number, place, owns}

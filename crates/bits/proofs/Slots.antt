@@ -13,7 +13,7 @@ use lib.Arith.{digits-lt}
 use Rattle.memory.specs.Bytes.{Bytes, value, bytesOf}
 use Rattle.bits.specs.declared.Order.{Order}
 use Rattle.bits.specs.declared.Order.the-variants.{Little, Big}
-use Rattle.bits.specs.Bits.{bit, number, frameBit, frame}
+use Rattle.bits.specs.Bits.{bit, number, frameBit, frameOf}
 use Rattle.bits.specs.Slots.{position, bytesReversed, turned, bitField, withBitField}
 use Rattle.memory.proofs.Tests.{lt-or-le}
 use Rattle.bits.proofs.Numbers.{bit-lt, bit-low, bit-high, bit-mod, bit-div, number-ext, number-bits}

@@ -8,14 +8,14 @@ use native.Mathlib.Omega.{arith}
 use lib.ListN.{length}
 use Rattle.memory.specs.Bytes.{Bytes, value, bytesOf}
 use Rattle.bits.specs.declared.Order.{Order}
-use Rattle.bits.specs.Bits.{bit, frameBit, frame, place, written, packed, unpacked}
+use Rattle.bits.specs.Bits.{bit, frameBit, frameOf, place, written, packed, unpacked}
 use Rattle.bits.specs.Slots.{position, turned, bitField, withBitField, InSlot}
 use Rattle.memory.proofs.Tests.{lt-or-le}
 use Rattle.bits.proofs.Numbers.{number-ext}
 use Rattle.bits.proofs.Frames.{frame-ext, value-bit, bytesOf-frame}
 use Rattle.bits.proofs.Places.{position-lt, position-twice, along, place-at, Run}
 use Rattle.bits.proofs.Slots.{turned-bit, field-number, with-field-in, with-field-below, with-field-above}
-use Rattle.bits.proofs.Laws.{written-own, written-other}
+use Rattle.bits.proofs.RoundTrip.{written-own, written-other}
 
 module _ (o : Order) (start size : ℕ) (f : List ℕ) (bytes : Bytes f) (eight : length f ≡ 8) (here : Run o start size) where
   word : ℕ
@@ -66,7 +66,7 @@ module _ (o : Order) (start size : ℕ) (f : List ℕ) (bytes : Bytes f) (eight 
   run-packed v =
       bytesOf-frame 8 _
       ∙ frame-ext 8 _ (written o start v f size) (λ p h. turned-bit o _ p h ∙ slot-bit v p h)
-      ∙ ap (λ (L : ℕ). frame L (written o start v f size)) (sym eight)
+      ∙ ap (λ (L : ℕ). frameOf L (written o start v f size)) (sym eight)
 
 -- the run that a caller has checked, from its first position
 slot-run : (o : Order) (at size : ℕ) → InSlot at size → Run o (position o at) size

@@ -38,9 +38,9 @@ number zero b = 0
 number (suc k) b = b 0 + 2 * number k (λ i. b (suc i))
 
 -- the frame of L bytes whose bit k is b k
-unfoldable pub frame : ℕ → (ℕ → ℕ) → List ℕ
-frame zero b = []
-frame (suc L) b = number 8 b ∷ frame L (λ k. b (8 + k))
+unfoldable pub frameOf : ℕ → (ℕ → ℕ) → List ℕ
+frameOf zero b = []
+frameOf (suc L) b = number 8 b ∷ frameOf L (λ k. b (8 + k))
 
 -- bit p of frame f once message bits 0 to k - 1 of value v have gone to their places
 unfoldable pub written : Order → ℕ → ℕ → List ℕ → ℕ → ℕ → ℕ
@@ -49,7 +49,7 @@ written o start v f (suc i) p = pick (eqb (place o start i) p) (bit v i) (writte
 
 -- packing drops high bits: only the first `size` bits of v are written
 unfoldable pub packed : Order → ℕ → ℕ → ℕ → List ℕ → List ℕ
-packed o start size v f = frame (length f) (written o start v f size)
+packed o start size v f = frameOf (length f) (written o start v f size)
 
 -- unpacking fills high bits with 0
 unfoldable pub unpacked : Order → ℕ → ℕ → List ℕ → ℕ

@@ -12,8 +12,8 @@ use Rattle.table.specs.declared.Direction.{Direction}
 use Rattle.table.specs.declared.Direction.the-variants.{Send, Receive}
 use Rattle.table.specs.Decode.{ipduOf, Right}
 use Rattle.state.specs.Layout.{ipduState}
-use Rattle.transmission.specs.Requests.{ipdu, goes}
-use Rattle.transmission.specs.Ticks.{delayed, aged, countedDown}
+use Rattle.transmission.specs.Requests.{ipdu, isDue}
+use Rattle.transmission.specs.Ticks.{tickDelay, tickDeadline, tickPeriod}
 use Rattle.calls.specs.Answers.{Outcome, valueOf}
 use Rattle.calls.proofs.Records.{ipdu-short}
 use Rattle.calls.specs.Tick.{tickAs, tickIpdu}
@@ -33,7 +33,7 @@ tick-word t c k area m = by (ipdu t k .direction)
     either false = omega arith
 
     by : (d : Direction) → valueOf (tickAs d t c k area m .answer) ≤ 2 ^ k
-    by Send = either (goes (ipdu t k) (countedDown (ipdu t k) (aged (delayed (ipduState m k)))))
+    by Send = either (isDue (ipdu t k) (tickPeriod (ipdu t k) (tickDeadline (tickDelay (ipduState m k)))))
     by Receive = omega arith
 
 -- a word of k bits and the next bit make one of k + 1 bits

@@ -20,9 +20,9 @@ use Rattle.state.specs.declared.IpduState.{IpduState}
 use Rattle.state.specs.declared.ObjectState.{ObjectState}
 use Rattle.state.specs.Layout.{withRunning, slotAt, ipduState, withIpduState, objectState, withObjectState}
 use Rattle.state.specs.Updates.{withMarks, withWanted}
-use Rattle.message.specs.Objects.{object, sent, receiveError, sendError, lets, filtered, oldest, dequeue, pack, initialise}
+use Rattle.message.specs.Objects.{object, markSent, markReceiveError, markSendError, passesFilter, afterFilter, oldest, dequeue, pack, initialise}
 use Rattle.message.specs.Delivery.{deliverInside, deliverFrame, markObjects}
-use Rattle.transmission.specs.Requests.{ipdu, goes, offered, handed, confirmed, setPeriods, timerSet}
+use Rattle.transmission.specs.Requests.{ipdu, isDue, afterRequest, copiedToArea, confirmed, setPeriods, timerSet}
 use Rattle.calls.specs.declared.Answer.{Answer}
 use Rattle.calls.specs.declared.Answer.the-variants.{Done, WrongId, WrongLength, Limit, NoMessage, NotRequested}
 use Rattle.calls.specs.Answers.{Outcome, outcome}
@@ -61,22 +61,22 @@ isPeriodic Mixed = false
 unfoldable pub wants : List ℕ → Object → Bool
 wants t o = not (eqb (o .ipdu .0) absent) && isTriggered (o .transfer) && not (isPeriodic (ipdu t (o .ipdu .0) .mode))
 
-abbrev pub offerOf : Ipdu → ℕ → IpduState → List ℕ → List ℕ → Outcome
-offerOf p k s area m =
-    outcome (Done (pick (goes p s) (2 ^ k) 0)) (withIpduState m k (offered p s)) (pick (goes p s) (handed (p .length .0) k m area) area)
+abbrev pub tryRequest : Ipdu → ℕ → IpduState → List ℕ → List ℕ → Outcome
+tryRequest p k s area m =
+    outcome (Done (pick (isDue p s) (2 ^ k) 0)) (withIpduState m k (afterRequest p s)) (pick (isDue p s) (copiedToArea (p .length .0) k m area) area)
 
 unfoldable pub request : List ℕ → Object → List ℕ → List ℕ → Outcome
 request t o area m =
-    pick (wants t o) (offerOf (ipdu t (o .ipdu .0)) (o .ipdu .0) (withWanted 1 (ipduState m (o .ipdu .0))) area m)
+    pick (wants t o) (tryRequest (ipdu t (o .ipdu .0)) (o .ipdu .0) (withWanted 1 (ipduState m (o .ipdu .0))) area m)
     (outcome (Done 0) m area)
 
-abbrev pub judged : Bool → List ℕ → Object → ℕ → List ℕ → List ℕ → Outcome
-judged passed t o v area m = pick passed (request t o area (pack o v m)) (outcome (Done 0) m area)
+abbrev pub ifPassed : Bool → List ℕ → Object → ℕ → List ℕ → List ℕ → Outcome
+ifPassed passed t o v area m = pick passed (request t o area (pack o v m)) (outcome (Done 0) m area)
 
 abbrev pub filterSend : List ℕ → Object → ℕ → ℕ → List ℕ → List ℕ → Outcome
 filterSend t o i v area m =
-    judged (lets o v (objectState m i)) t o v area
-    (withObjectState m i (filtered (lets o v (objectState m i)) v (objectState m i)))
+    ifPassed (passesFilter o v (objectState m i)) t o v area
+    (withObjectState m i (afterFilter (passesFilter o v (objectState m i)) v (objectState m i)))
 
 unfoldable pub sendOf : List ℕ → Counts → ℕ → ℕ → List ℕ → List ℕ → Outcome
 sendOf t c i v area m = filterSend t (object t c i) i v area (deliverInside t c i v m)
@@ -140,7 +140,7 @@ abbrev pub indicationOf : Bool → List ℕ → Counts → ℕ → List ℕ → 
 indicationOf true t c k bytes m =
     pick (eqb (length bytes) (ipduRecord t k .length)) (outcome (Done 0) (timed t k (deliverFrame t c k (replaced (slotAt k) bytes m))) [])
     (outcome WrongLength m [])
-indicationOf false t c k bytes m = outcome (Done 0) (markObjects t c k receiveError m) []
+indicationOf false t c k bytes m = outcome (Done 0) (markObjects t c k markReceiveError m) []
 
 unfoldable pub indicationIn : List ℕ → Counts → ℕ → Bool → List ℕ → List ℕ → Outcome
 indicationIn t c k good bytes m = pick (isIpdu t c 2 k) (indicationOf good t c k bytes m) (outcome WrongId m [])
@@ -149,7 +149,7 @@ indicationIn t c k good bytes m = pick (isIpdu t c 2 k) (indicationOf good t c k
 
 abbrev pub confirmOf : Bool → List ℕ → Counts → ℕ → List ℕ → List ℕ
 confirmOf good t c k m =
-    markObjects t c k (pick good sent sendError) (withIpduState m k (confirmed good (ipdu t k) (ipduState m k)))
+    markObjects t c k (pick good markSent markSendError) (withIpduState m k (confirmed good (ipdu t k) (ipduState m k)))
 
 unfoldable pub confirmIn : List ℕ → Counts → ℕ → Bool → List ℕ → Outcome
 confirmIn t c k good m =

@@ -54,7 +54,7 @@ fn request(t: &[u8], m: &mut [u8], area: &mut [u8], o: Object) -> Answer
     let p = table::decode_ipdu(t, number);
     let mut s = state::ipdu_state(m, number);
     s.wanted = 1;
-    let word = transmission::offer(m, area, number, p, s);
+    let word = transmission::try_request(m, area, number, p, s);
     Answer::Done(word)
 }
 

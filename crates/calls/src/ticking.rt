@@ -17,7 +17,7 @@ ghost use Rattle.state.specs.Layout.{memorySize, ipduState, areaSize};
 ghost use Rattle.state.specs.Ranges.{Ready};
 ghost use Rattle.message.specs.Delivery.{markObjects};
 ghost use Rattle.transmission.specs.Requests.{ipdu};
-ghost use Rattle.transmission.specs.Ticks.{delayed};
+ghost use Rattle.transmission.specs.Ticks.{tickDelay};
 ghost use Rattle.calls.specs.declared.Answer.the-variants.{Done};
 ghost use Rattle.calls.specs.Answers.{outcome};
 ghost use Rattle.calls.specs.Tick.{sendTick, receiveTick, tickIpdu, tickIn};
@@ -58,12 +58,12 @@ fn tick_ipdu(t: &[u8], c: Counts, m: &mut [u8], area: &mut [u8], number: IpduNum
 fn tick_send(t: &[u8], c: Counts, m: &mut [u8], area: &mut [u8], number: IpduNumber, p: Ipdu) -> u32
     requires { ⌜ Shape (now t) c ⌝ }
     requires { ⌜ (number .0 < 32) × (memorySize ≤ length (now m)) × (areaSize ≤ length (now area)) × (p .length .0 ≤ 8) × (p ≡ ipdu (now t) (number .0)) ⌝ }
-    ensures { λ r. ⌜ outcome (Done r) (now (m .exit)) (now (area .exit)) ≡ sendTick (now (t .entry)) c (number .0) (delayed (ipduState (now (m .entry)) (number .0))) (now (area .entry)) (now (m .entry)) ⌝ }
+    ensures { λ r. ⌜ outcome (Done r) (now (m .exit)) (now (area .exit)) ≡ sendTick (now (t .entry)) c (number .0) (tickDelay (ipduState (now (m .entry)) (number .0))) (now (area .entry)) (now (m .entry)) ⌝ }
 {
-    let s = transmission::delayed(state::ipdu_state(m, number));
-    mark_where(t, c, m, number, SEND_ERROR, transmission::expires(s));
-    let next = transmission::counted_down(p, transmission::aged(s));
-    transmission::offer(m, area, number, p, next)
+    let s = transmission::tick_delay(state::ipdu_state(m, number));
+    mark_where(t, c, m, number, SEND_ERROR, transmission::deadline_expires(s));
+    let next = transmission::tick_period(p, transmission::tick_deadline(s));
+    transmission::try_request(m, area, number, p, next)
 }
 
 // The timer of a receive I-PDU.
@@ -73,8 +73,8 @@ fn tick_receive(t: &[u8], c: Counts, m: &mut [u8], number: IpduNumber, p: Ipdu)
     ensures { λ _. ⌜ now (m .exit) ≡ receiveTick (now (t .entry)) c (number .0) (ipduState (now (m .entry)) (number .0)) [] (now (m .entry)) .memory ⌝ }
 {
     let s = state::ipdu_state(m, number);
-    mark_where(t, c, m, number, RECEIVE_ERROR, transmission::late(s));
-    state::set_ipdu_state(m, number, transmission::watched(p, s));
+    mark_where(t, c, m, number, RECEIVE_ERROR, transmission::timer_expires(s));
+    state::set_ipdu_state(m, number, transmission::tick_timer(p, s));
 }
 
 // Marks the objects of an I-PDU, where one of its times has run out.

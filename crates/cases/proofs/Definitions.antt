@@ -1,7 +1,7 @@
 -- What a proved case is computed from: every definition that a filter, the check or a call goes through. To unfold one of the names
 -- below is to unfold all that its line names. Assumes nothing.
 use Rattle.memory.specs.Bytes.{value, bytesOf, part, numberAt, replaced}
-use Rattle.bits.specs.Bits.{bit, frameBit, place, room, number, frame, written, packed, unpacked, owns}
+use Rattle.bits.specs.Bits.{bit, frameBit, place, room, number, frameOf, written, packed, unpacked, owns}
 use Rattle.bits.specs.Slots.{position}
 use Rattle.filter.specs.Filters.{passes, filterOf, filterRight}
 use Rattle.table.specs.Records.{counts, ipduRecord, objectRecord}
@@ -10,10 +10,10 @@ use Rattle.table.specs.Check.{shareBit, overlapsLower, check}
 use Rattle.table.specs.Decode.{ipduOf, objectOf}
 use Rattle.state.specs.Layout.{runningAt, withRunning, ipduState, withIpduState, objectState, withObjectState}
 use Rattle.state.specs.Ranges.{ipduInRange, objectInRange, inRange}
-use Rattle.message.specs.Objects.{marked, filtered, delivered, deliver, oldest, dequeue, pack, unpack, initialise}
+use Rattle.message.specs.Objects.{marked, afterFilter, delivered, deliver, oldest, dequeue, pack, unpack, initialise}
 use Rattle.message.specs.Delivery.{deliverInside, deliverFrame, markObjects}
-use Rattle.transmission.specs.Requests.{goes, made, offered, handed, confirmed, periodSet, setPeriods, timerSet}
-use Rattle.transmission.specs.Ticks.{delayed, expires, aged, fires, countedDown, late, watched}
+use Rattle.transmission.specs.Requests.{isDue, requestMade, afterRequest, copiedToArea, confirmed, periodSet, setPeriods, timerSet}
+use Rattle.transmission.specs.Ticks.{tickDelay, deadlineExpires, tickDeadline, periodElapses, tickPeriod, timerExpires, tickTimer}
 use Rattle.layer.specs.Admission.{admission, startAdmission}
 use Rattle.calls.specs.Calls.{stopIn, wants, request, sendOf, sendIn, initialiseIn, receiveIn, statusIn, marksIn, clearMarksIn, periodicIn, indicationIn, confirmIn}
 use Rattle.calls.specs.Tick.{tickIpdu, tickIn}
@@ -21,7 +21,7 @@ use Rattle.layer.specs.Start.{blank, prepared, started}
 use Rattle.layer.specs.Step.{step}
 
 unfoldable bitDefinitions : Unit {0}
-unfolding value bytesOf part numberAt replaced bit frameBit place room number frame written packed unpacked owns position
+unfolding value bytesOf part numberAt replaced bit frameBit place room number frameOf written packed unpacked owns position
 bitDefinitions = tt
 
 unfoldable checkDefinitions : Unit {0}
@@ -33,11 +33,11 @@ unfolding runningAt withRunning ipduState withIpduState objectState withObjectSt
 stateDefinitions = tt
 
 unfoldable messageDefinitions : Unit {0}
-unfolding marked filtered delivered deliver oldest dequeue pack unpack initialise deliverInside deliverFrame markObjects
+unfolding marked afterFilter delivered deliver oldest dequeue pack unpack initialise deliverInside deliverFrame markObjects
 messageDefinitions = tt
 
 unfoldable requestDefinitions : Unit {0}
-unfolding goes made offered handed confirmed periodSet setPeriods timerSet delayed expires aged fires countedDown late watched
+unfolding isDue requestMade afterRequest copiedToArea confirmed periodSet setPeriods timerSet tickDelay deadlineExpires tickDeadline periodElapses tickPeriod timerExpires tickTimer
 requestDefinitions = tt
 
 unfoldable callDefinitions : Unit {0}

@@ -12,7 +12,7 @@ use lib.ListN.{length, drop, take-append-drop}
 use lib.Seq.{length-take-le}
 use Rattle.memory.specs.Bytes.{Bytes, part}
 use Rattle.memory.specs.Search.{pick}
-use Rattle.memory.proofs.Laws.{part-bytes}
+use Rattle.memory.proofs.Parts.{part-bytes}
 use Rattle.memory.proofs.Tests.{and-split, true-or-false}
 use Rattle.table.specs.declared.Counts.{Counts}
 use Rattle.table.specs.declared.Verdict.{Verdict}

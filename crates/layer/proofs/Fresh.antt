@@ -15,10 +15,10 @@ use Rattle.table.specs.declared.Object.{Object}
 use Rattle.table.specs.Decode.{Right}
 use Rattle.table.specs.Check.{depths}
 use Rattle.state.specs.Layout.{memorySize, withRunning, objectRow, withObjectState}
-use Rattle.state.proofs.Laws.{ipdu-length, object-length}
+use Rattle.state.proofs.RowLaws.{ipdu-length, object-length}
 use Rattle.state.proofs.Running.{running-length}
 use Rattle.message.specs.Objects.{object, Placed}
-use Rattle.message.proofs.Kept.{right-placed, pack-length}
+use Rattle.message.proofs.ObjectsInRange.{right-placed, pack-length}
 use Rattle.transmission.specs.Requests.{ipdu}
 use Rattle.layer.specs.Start.{blank, idle, firstTimer, startIpdu, unused, startAs, startObject, prepared, started}
 

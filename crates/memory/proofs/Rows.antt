@@ -12,7 +12,7 @@ use lib.ListN.{length}
 use Rattle.memory.specs.Bytes.{Bytes, value, bytesOf, numberAt, part, replaced}
 use Rattle.memory.specs.Rows.{Field, put, rising}
 use Rattle.memory.proofs.Tests.{and-split}
-use Rattle.memory.proofs.Laws.{bytesOf-length, bytesOf-bytes, replaced-length, replaced-bytes, part-apart, number-replaced}
+use Rattle.memory.proofs.Parts.{bytesOf-length, bytesOf-bytes, replaced-length, replaced-bytes, part-apart, number-replaced}
 
 -- rising fields end where they should
 pub rising-end : (from end : ℕ) (fs : List Field) → rising from end fs ≡ true → from ≤ end

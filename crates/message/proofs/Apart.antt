@@ -11,7 +11,7 @@ use lib.Dec.{eqb}
 use lib.ListN.{length}
 use Rattle.memory.specs.Bytes.{bytesOf, part, replaced}
 use Rattle.memory.specs.Search.{pick, fold}
-use Rattle.memory.proofs.Laws.{bytesOf-length, part-apart, replaced-length}
+use Rattle.memory.proofs.Parts.{bytesOf-length, part-apart, replaced-length}
 use Rattle.memory.proofs.Search.{picked, fold-keeps, fold-view, fold-at}
 use Rattle.memory.proofs.Tests.{lt-or-le}
 use Rattle.bits.specs.Bits.{unpacked}
@@ -23,12 +23,12 @@ use Rattle.table.specs.Decode.{objectOf}
 use Rattle.state.specs.declared.ObjectState.{ObjectState}
 use Rattle.state.specs.Layout.{slotAt, objectRow, objectState, withObjectState}
 use Rattle.state.specs.Ranges.{Ready}
-use Rattle.state.proofs.Laws.{ObjectFits, object-part, object-stored, object-read}
+use Rattle.state.proofs.RowLaws.{ObjectFits, object-part, object-stored, object-read}
 use Rattle.state.proofs.Ready.{ObjectKept, kept-fits, object-row, ready-kept}
-use Rattle.message.specs.Objects.{object, lets, placeAt, delivered, enters, deliver, startBit, unpack}
+use Rattle.message.specs.Objects.{object, passesFilter, placeAt, delivered, enters, deliver, startBit, unpack}
 use Rattle.message.specs.Delivery.{deliverInside, deliverFrame}
-use Rattle.message.proofs.Laws.{queue-room}
-use Rattle.message.proofs.Kept.{ready-held, kept-delivered, ready-deliver, unpack-lt}
+use Rattle.message.proofs.RingPlaces.{queue-room}
+use Rattle.message.proofs.ObjectsInRange.{ready-held, kept-delivered, ready-deliver, unpack-lt}
 
 -- a part of row j lies before row i or after it, and before the queues
 other-row : (i j o w : ℕ) → (j ≡ i → ⊥) → j < 128 → o + w ≤ 16
@@ -68,14 +68,14 @@ module _ (t : List ℕ) (c : Counts) (m : List ℕ) (ready : Ready t c m) (i : �
       let room = object-row t c m ready i h in
       let few = ready .right .shape .objects in
       object-part
-      (pick (enters (lets (object t c i) v (objectState m i)) (object t c i .depth) (objectState m i))
+      (pick (enters (passesFilter (object t c i) v (objectState m i)) (object t c i .depth) (objectState m i))
       (replaced (placeAt (object t c i .depth) (objectState m i) (objectState m i .count)) (bytesOf 4 v) m) m)
-      i (delivered (lets (object t c i) v (objectState m i)) (object t c i .depth) v (objectState m i))
-      (omega (arith, room, queue-length (enters (lets (object t c i) v (objectState m i)) (object t c i .depth) (objectState m i)))) j w
+      i (delivered (passesFilter (object t c i) v (objectState m i)) (object t c i .depth) v (objectState m i))
+      (omega (arith, room, queue-length (enters (passesFilter (object t c i) v (objectState m i)) (object t c i .depth) (objectState m i)))) j w
       (⊎-elim
       (λ (b : j + w ≤ objectRow i). inl b)
       (λ (b : (objectRow i + 16 ≤ j) × (j + w ≤ 2832)). inr (b .0)) side)
-      ∙ queue-part (enters (lets (object t c i) v (objectState m i)) (object t c i .depth) (objectState m i)) j w
+      ∙ queue-part (enters (passesFilter (object t c i) v (objectState m i)) (object t c i .depth) (objectState m i)) j w
       (⊎-elim
       (λ (b : j + w ≤ objectRow i). omega (arith, b, h, few))
       (λ (b : (objectRow i + 16 ≤ j) × (j + w ≤ 2832)). b .1) side)
@@ -90,16 +90,16 @@ module _ (t : List ℕ) (c : Counts) (m : List ℕ) (ready : Ready t c m) (i : �
   -- its own row
   pub deliver-row : v < 2 ^ 32
       → objectState (deliver (object t c i) i v m) i
-      ≡ delivered (lets (object t c i) v (objectState m i)) (object t c i .depth) v (objectState m i)
+      ≡ delivered (passesFilter (object t c i) v (objectState m i)) (object t c i .depth) v (objectState m i)
   unfolding deliver objectOf
   deliver-row small =
       object-stored
-      (pick (enters (lets (object t c i) v (objectState m i)) (object t c i .depth) (objectState m i))
+      (pick (enters (passesFilter (object t c i) v (objectState m i)) (object t c i .depth) (objectState m i))
       (replaced (placeAt (object t c i .depth) (objectState m i) (objectState m i .count)) (bytesOf 4 v) m) m)
-      i (delivered (lets (object t c i) v (objectState m i)) (object t c i .depth) v (objectState m i))
-      (omega (arith, object-row t c m ready i h, queue-length (enters (lets (object t c i) v (objectState m i)) (object t c i .depth) (objectState m i))))
+      i (delivered (passesFilter (object t c i) v (objectState m i)) (object t c i .depth) v (objectState m i))
+      (omega (arith, object-row t c m ready i h, queue-length (enters (passesFilter (object t c i) v (objectState m i)) (object t c i .depth) (objectState m i))))
       (kept-fits t c m ready i h _
-      (kept-delivered (objectRecord t (c .ipdus) i .depth) (depths t c i) (lets (object t c i) v (objectState m i)) v (objectState m i) small
+      (kept-delivered (objectRecord t (c .ipdus) i .depth) (depths t c i) (passesFilter (object t c i) v (objectState m i)) v (objectState m i) small
       (ready-kept t c m ready i h)))
 
 -- ---- deliveries by rising number: to each object that has the test, of a value that may be read from working memory
@@ -147,7 +147,7 @@ module _ (t : List ℕ) (c : Counts) (m : List ℕ) (ready : Ready t c m) (test 
   -- the row of an object that has the test
   pub row-after : (j : ℕ) → j < c .objects → test j ≡ true → (v : ℕ) → v ≡ value j (fold j (deliverTurn t c test value) m)
       → objectState (fold (c .objects) (deliverTurn t c test value) m) j
-      ≡ delivered (lets (object t c j) v (objectState m j)) (object t c j .depth) v (objectState m j)
+      ≡ delivered (passesFilter (object t c j) v (objectState m j)) (object t c j .depth) v (objectState m j)
   row-after j low yes-j v e =
       fold-at (λ (l : List ℕ). objectState l j) (c .objects) (deliverTurn t c test value) m j low (other-turn j low)
       ∙ here
@@ -159,17 +159,17 @@ module _ (t : List ℕ) (c : Counts) (m : List ℕ) (ready : Ready t c m) (test 
       r = turns-ready j (omega (arith, low))
 
       here : objectState (deliverTurn t c test value j (fold j (deliverTurn t c test value) m)) j
-          ≡ delivered (lets (object t c j) v (objectState m j)) (object t c j .depth) v (objectState m j)
+          ≡ delivered (passesFilter (object t c j) v (objectState m j)) (object t c j .depth) v (objectState m j)
       here =
           rw (yes-j, ← e)
           (deliver-row t c (fold j (deliverTurn t c test value) m) r j low v (rw e (small j low (fold j (deliverTurn t c test value) m) r))
-          ∙ ap (λ (s : ObjectState). delivered (lets (object t c j) v s) (object t c j .depth) v s) (row-before j low))
+          ∙ ap (λ (s : ObjectState). delivered (passesFilter (object t c j) v s) (object t c j .depth) v s) (row-before j low))
 
 -- internal delivery passes the whole value
 pub inside-row : (t : List ℕ) (c : Counts) (m : List ℕ) → Ready t c m → (sender v j : ℕ) → v < 2 ^ 32 → j < c .objects
     → objectRecord t (c .ipdus) j .sender ≡ sender
     → objectState (deliverInside t c sender v m) j
-    ≡ delivered (lets (object t c j) v (objectState m j)) (object t c j .depth) v (objectState m j)
+    ≡ delivered (passesFilter (object t c j) v (objectState m j)) (object t c j .depth) v (objectState m j)
 unfolding deliverInside
 inside-row t c m ready sender v j small low e =
     row-after t c m ready (λ i. eqb (objectRecord t (c .ipdus) i .sender) sender) (λ i l. v) (λ i b l r. small) j low
@@ -179,7 +179,7 @@ inside-row t c m ready sender v j small low e =
 pub frame-row : (t : List ℕ) (c : Counts) (m : List ℕ) → Ready t c m → (k j : ℕ) → k < 32 → j < c .objects
     → objectRecord t (c .ipdus) j .ipdu ≡ k
     → objectState (deliverFrame t c k m) j
-    ≡ delivered (lets (object t c j) (unpack (object t c j) m) (objectState m j)) (object t c j .depth) (unpack (object t c j) m) (objectState m j)
+    ≡ delivered (passesFilter (object t c j) (unpack (object t c j) m) (objectState m j)) (object t c j .depth) (unpack (object t c j) m) (objectState m j)
 unfolding deliverFrame unpack objectOf
 frame-row t c m ready k j few low e =
     row-after t c m ready (λ i. eqb (objectRecord t (c .ipdus) i .ipdu) k) (λ i l. unpack (object t c i) l) (λ i b l r. unpack-lt t c l r i b) j low

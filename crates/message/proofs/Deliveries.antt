@@ -23,8 +23,8 @@ use Rattle.state.proofs.Ready.{ready-kept}
 use Rattle.message.specs.Objects.{object, Held, deliver, startBit, unpack}
 use Rattle.message.specs.Delivery.{insideTurn, deliverInside, frameTurn, deliverFrame}
 use Rattle.message.specs.Queues.{waiting}
-use Rattle.message.proofs.Laws.{around-lt}
-use Rattle.message.proofs.Kept.{ready-held, ready-deliver, unpack-lt}
+use Rattle.message.proofs.RingPlaces.{around-lt}
+use Rattle.message.proofs.ObjectsInRange.{ready-held, ready-deliver, unpack-lt}
 use Rattle.message.proofs.Apart.{deliver-other, deliver-slot, deliverTurn, turns-ready}
 use Rattle.message.proofs.Queues.{waiting-delivered, deliver-apart, waiting-same}
 

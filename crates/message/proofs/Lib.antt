@@ -1,5 +1,5 @@
-pub mod Laws
-pub mod Kept
+pub mod RingPlaces
+pub mod ObjectsInRange
 pub mod Apart
 pub mod Queues
 pub mod Deliveries

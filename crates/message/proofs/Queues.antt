@@ -14,17 +14,17 @@ use lib.ListN.{length, length-append, take, drop}
 use lib.Seq.{take-take, drop-drop}
 use Rattle.memory.specs.Bytes.{value, bytesOf, part, numberAt, replaced}
 use Rattle.memory.specs.Search.{pick}
-use Rattle.memory.proofs.Laws.{bytesOf-length, number-replaced, number-apart, part-apart, replaced-length}
+use Rattle.memory.proofs.Parts.{bytesOf-length, number-replaced, number-apart, part-apart, replaced-length}
 use Rattle.memory.proofs.Rows.{put-holds}
 use Rattle.memory.proofs.Search.{picked}
 use Rattle.memory.proofs.Tests.{and-split, and-false, lt-or-le, true-or-false}
 use Rattle.table.specs.declared.Object.{Object}
 use Rattle.state.specs.declared.ObjectState.{ObjectState}
 use Rattle.state.specs.Layout.{queues, objectRow, objectFields, objectState, withObjectState}
-use Rattle.state.proofs.Laws.{object-part}
-use Rattle.message.specs.Objects.{Held, marked, lets, filtered, around, placeAt, delivered, enters, deliver, oldest, dequeued, dequeue}
+use Rattle.state.proofs.RowLaws.{object-part}
+use Rattle.message.specs.Objects.{Held, marked, passesFilter, afterFilter, around, placeAt, delivered, enters, deliver, oldest, dequeued, dequeue}
 use Rattle.message.specs.Queues.{valueBehind, oldestValues, waiting}
-use Rattle.message.proofs.Laws.{around-lt, queue-room}
+use Rattle.message.proofs.RingPlaces.{around-lt, queue-room}
 
 -- ---- places of the ring
 
@@ -138,7 +138,7 @@ record RingDelivered (passed : Bool) (depth v : ℕ) (s : ObjectState) : Type 0 
 
 -- that is so of every delivery: passed or not, with a queue or none, with room or full
 ring-delivered : (passed : Bool) (depth v : ℕ) (s : ObjectState) → RingDelivered passed depth v s
-unfolding delivered filtered marked
+unfolding delivered afterFilter marked
 ring-delivered false depth v s = record { head = refl; count = refl; queue = refl }
 ring-delivered true depth v s =
     ⊎-elim
@@ -199,14 +199,14 @@ module _ (o : Object) (i v : ℕ) (m : List ℕ) (held : Held (o .depth) i m) wh
 
   -- where the value enters the queue, it waits behind all others
   pub waiting-delivered : waiting (o .depth) i (deliver o i v m)
-      ≡ pick (enters (lets o v (objectState m i)) (o .depth) (objectState m i)) (waiting (o .depth) i m ++ (v % 2 ^ 32 ∷ [])) (waiting (o .depth) i m)
+      ≡ pick (enters (passesFilter o v (objectState m i)) (o .depth) (objectState m i)) (waiting (o .depth) i m ++ (v % 2 ^ 32 ∷ [])) (waiting (o .depth) i m)
   unfolding deliver
   waiting-delivered =
       let s = objectState m i in
       let d = o .depth in
-      let enter = enters (lets o v s) d s in
-      let r = delivered (lets o v s) d v s in
-      let ring = ring-delivered (lets o v s) d v s in
+      let enter = enters (passesFilter o v s) d s in
+      let r = delivered (passesFilter o v s) d v s in
+      let ring = ring-delivered (passesFilter o v s) d v s in
       let most = picked (λ (n : ℕ). n < 256) enter (s .count + 1) (s .count) (λ y. omega (arith, held .count, held .few)) (λ y. omega (arith, held .count, held .few)) in
       let fits : RingFits r =
       record {
@@ -216,20 +216,20 @@ module _ (o : Object) (i v : ℕ) (m : List ℕ) (held : Held (o .depth) i m) wh
       } in
       waiting-stored d i (enqueued enter d i v m) r (held .number) (row-room enter) fits
       ∙ ap (oldestValues d r (enqueued enter d i v m)) (ring .count)
-      ∙ values-enqueued r (ring .head) (ring .queue) enter (enters-room (lets o v s))
+      ∙ values-enqueued r (ring .head) (ring .queue) enter (enters-room (passesFilter o v s))
 
   -- a value that passes, and finds room, waits behind all others
-  pub waiting-arrived : v < 2 ^ 32 → lets o v (objectState m i) ≡ true → objectState m i .count < o .depth
+  pub waiting-arrived : v < 2 ^ 32 → passesFilter o v (objectState m i) ≡ true → objectState m i .count < o .depth
       → waiting (o .depth) i (deliver o i v m) ≡ waiting (o .depth) i m ++ (v ∷ [])
   waiting-arrived small passed room = waiting-delivered ∙ rw (passed, lt-ltb (objectState m i .count) (o .depth) room, mod-eq-of-lt small)
 
   -- a full queue loses the value, passed or not
   pub waiting-lost : objectState m i .count ≡ o .depth → waiting (o .depth) i (deliver o i v m) ≡ waiting (o .depth) i m
   waiting-lost full =
-      waiting-delivered ∙ rw (le-ltb (objectState m i .count) (o .depth) (omega (arith, full)), and-false (lets o v (objectState m i)))
+      waiting-delivered ∙ rw (le-ltb (objectState m i .count) (o .depth) (omega (arith, full)), and-false (passesFilter o v (objectState m i)))
 
   -- a value that does not pass is dropped
-  pub waiting-dropped : lets o v (objectState m i) ≡ false → waiting (o .depth) i (deliver o i v m) ≡ waiting (o .depth) i m
+  pub waiting-dropped : passesFilter o v (objectState m i) ≡ false → waiting (o .depth) i (deliver o i v m) ≡ waiting (o .depth) i m
   waiting-dropped dropped = waiting-delivered ∙ rw dropped
 
   -- a part of the queues that does not hold the place behind all values is as it was
@@ -240,16 +240,16 @@ module _ (o : Object) (i v : ℕ) (m : List ℕ) (held : Held (o .depth) i m) wh
   unfolding deliver
   deliver-apart at w behind side =
       let s = objectState m i in
-      let enter = enters (lets o v s) (o .depth) s in
+      let enter = enters (passesFilter o v s) (o .depth) s in
       let p = placeAt (o .depth) s (s .count) in
-      object-part (enqueued enter (o .depth) i v m) i (delivered (lets o v s) (o .depth) v s) (row-room enter) at w (inr (omega (arith, behind, held .number)))
+      object-part (enqueued enter (o .depth) i v m) i (delivered (passesFilter o v s) (o .depth) v s) (row-room enter) at w (inr (omega (arith, behind, held .number)))
       ∙ picked (λ (n : List ℕ). part at w n ≡ part at w m) enter (replaced p (bytesOf 4 v) m) m
       (λ y.
       part-apart p (bytesOf 4 v) m at w place-room
       (⊎-elim
       (λ (a : at + w ≤ p). inl a)
       (λ (a : p + 4 ≤ at). inr (omega (arith, a, bytesOf-length 4 v)))
-      (side (enters-room (lets o v s) y))))
+      (side (enters-room (passesFilter o v s) y))))
       (λ y. refl)
 
 -- ---- what leaves the queue alone

@@ -43,28 +43,28 @@ pub record Placed (o : Object) (m : List ℕ) : Type 0 where
 
 -- ---- marks: arrived 1, sent 2, receive error 4, send error 8, added
 
-abbrev pub arrived : ℕ
-arrived = 1
+abbrev pub markArrived : ℕ
+markArrived = 1
 
-abbrev pub sent : ℕ
-sent = 2
+abbrev pub markSent : ℕ
+markSent = 2
 
-abbrev pub receiveError : ℕ
-receiveError = 4
+abbrev pub markReceiveError : ℕ
+markReceiveError = 4
 
-abbrev pub sendError : ℕ
-sendError = 8
+abbrev pub markSendError : ℕ
+markSendError = 8
 
 unfoldable pub marked : ℕ → ObjectState → ObjectState
 marked mark s = withMarks (bitOr (s .marks) mark) s
 
 -- ---- filters: old is the last value that passed, the occurrence rises after each filtering, passed or not
 
-abbrev pub lets : Object → ℕ → ObjectState → Bool
-lets o v s = passes (o .filter) v (s .old) (s .occurrence)
+abbrev pub passesFilter : Object → ℕ → ObjectState → Bool
+passesFilter o v s = passes (o .filter) v (s .old) (s .occurrence)
 
-unfoldable pub filtered : Bool → ℕ → ObjectState → ObjectState
-filtered passed v s = counted (pick passed (withOld v s) s)
+unfoldable pub afterFilter : Bool → ℕ → ObjectState → ObjectState
+afterFilter passed v s = counted (pick passed (withOld v s) s)
 
 -- ---- queues: a ring of as many places as the depth
 
@@ -81,12 +81,12 @@ placeAt depth s n = queues + 4 * (s .queue + around depth (s .head + n))
 
 abbrev pub stored : ℕ → ℕ → ObjectState → ObjectState
 stored depth v s =
-    pick (eqb depth 0) (marked arrived (withValue v s))
-    (pick (ltb (s .count) depth) (marked arrived (withQueue (s .overflow) (s .head) (s .count + 1) s))
+    pick (eqb depth 0) (marked markArrived (withValue v s))
+    (pick (ltb (s .count) depth) (marked markArrived (withQueue (s .overflow) (s .head) (s .count + 1) s))
     (withQueue 1 (s .head) (s .count) s))
 
 unfoldable pub delivered : Bool → ℕ → ℕ → ObjectState → ObjectState
-delivered passed depth v s = pick passed (stored depth v (filtered passed v s)) (filtered passed v s)
+delivered passed depth v s = pick passed (stored depth v (afterFilter passed v s)) (afterFilter passed v s)
 
 -- the value enters the queue
 abbrev pub enters : Bool → ℕ → ObjectState → Bool
@@ -99,7 +99,7 @@ delivery passed o i v s m =
     i (delivered passed (o .depth) v s)
 
 unfoldable pub deliver : Object → ℕ → ℕ → List ℕ → List ℕ
-deliver o i v m = delivery (lets o v (objectState m i)) o i v (objectState m i) m
+deliver o i v m = delivery (passesFilter o v (objectState m i)) o i v (objectState m i) m
 
 -- ---- receive of a queued object: the oldest value, and the queue without it and with overflow cleared
 

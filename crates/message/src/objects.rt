@@ -18,7 +18,7 @@ ghost use Rattle.filter.specs.Filters.{HasPeriod};
 ghost use Rattle.table.specs.declared.Direction.the-variants.{Send};
 ghost use Rattle.state.specs.Layout.{objectRow, objectState, withObjectState};
 ghost use Rattle.state.specs.Updates.{withOld, withValue, withQueue};
-ghost use Rattle.message.specs.Objects.{Held, Placed, lets, filtered, around, placeAt, enters, delivered, deliver, oldest, dequeue, pack, unpack, initialiseAs, initialise};
+ghost use Rattle.message.specs.Objects.{Held, Placed, passesFilter, afterFilter, around, placeAt, enters, delivered, deliver, oldest, dequeue, pack, unpack, initialiseAs, initialise};
 
 // Delivers a value to a receive object.
 pub fn deliver(m: &mut [u8], number: ObjectNumber, o: Object, v: u32)
@@ -42,13 +42,13 @@ pub fn deliver(m: &mut [u8], number: ObjectNumber, o: Object, v: u32)
 pub fn filter_sent(m: &mut [u8], number: ObjectNumber, o: Object, v: u32) -> bool
     requires { ⌜ objectRow (number .0) + 16 ≤ length (now m) ⌝ }
     requires { ⌜ HasPeriod (o .filter) ⌝ }
-    ensures passed { λ r. ⌜ r ≡ lets o v (objectState (now (m .entry)) (number .0)) ⌝ }
-    ensures row { λ r. ⌜ now (m .exit) ≡ withObjectState (now (m .entry)) (number .0) (filtered r v (objectState (now (m .entry)) (number .0))) ⌝ }
+    ensures passed { λ r. ⌜ r ≡ passesFilter o v (objectState (now (m .entry)) (number .0)) ⌝ }
+    ensures row { λ r. ⌜ now (m .exit) ≡ withObjectState (now (m .entry)) (number .0) (afterFilter r v (objectState (now (m .entry)) (number .0))) ⌝ }
 {
     let s = state::object_state(m, number);
     let f = o.filter;
     let passed = filter::passes(f, v, s.old, s.occurrence);
-    state::set_object_state(m, number, filtered(passed, v, s));
+    state::set_object_state(m, number, after_filter(passed, v, s));
     passed
 }
 
@@ -137,8 +137,8 @@ fn initialise_receive(m: &mut [u8], number: ObjectNumber, v: u32)
 }
 
 // The numbers of an object after a filtering.
-fn filtered(passed: bool, v: u32, s: ObjectState) -> ObjectState
-    ensures { λ r. ⌜ r ≡ filtered passed v s ⌝ }
+fn after_filter(passed: bool, v: u32, s: ObjectState) -> ObjectState
+    ensures { λ r. ⌜ r ≡ afterFilter passed v s ⌝ }
 {
     let mut next = s;
     next.occurrence = filter::next_occurrence(s.occurrence);
@@ -153,7 +153,7 @@ fn filtered(passed: bool, v: u32, s: ObjectState) -> ObjectState
 fn delivered(passed: bool, depth: u32, v: u32, s: ObjectState) -> ObjectState
     ensures { λ r. ⌜ r ≡ delivered passed depth v s ⌝ }
 {
-    let mut next = filtered(passed, v, s);
+    let mut next = after_filter(passed, v, s);
     if !passed {
         return next;
     }

@@ -1,4 +1,4 @@
-pub mod Laws
+pub mod RowLaws
 pub mod Turns
 pub mod Ready
 pub mod Running

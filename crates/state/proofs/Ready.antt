@@ -10,7 +10,7 @@ use borrow.Author.Tests.{leb-true, le-leb, eqb-true, eq-eqb, not-true, not-false
 use lib.Dec.{leb, eqb}
 use lib.ListN.{length}
 use Rattle.memory.specs.Bytes.{Bytes, value, part, numberAt, replaced}
-use Rattle.memory.proofs.Laws.{number-lt, part-apart, replaced-length, replaced-bytes}
+use Rattle.memory.proofs.Parts.{number-lt, part-apart, replaced-length, replaced-bytes}
 use Rattle.memory.proofs.Search.{any-none, any-false}
 use Rattle.memory.proofs.Tests.{and-split, eq-or-ne}
 use Rattle.table.specs.declared.Counts.{Counts}
@@ -24,7 +24,7 @@ use Rattle.state.specs.declared.IpduState.{IpduState}
 use Rattle.state.specs.declared.ObjectState.{ObjectState}
 use Rattle.state.specs.Layout.{memorySize, runningAt, ipduRow, ipduState, withIpduState, objectRow, objectState, withObjectState}
 use Rattle.state.specs.Ranges.{inRangeAs, ipduInRange, objectInRange, ipduOut, objectOut, inRange, Ready}
-use Rattle.state.proofs.Laws.{IpduFits, ObjectFits, ipdu-length, ipdu-part, ipdu-stored, ipdu-bytes, ipdu-fits, ipdu-read, ipdu-other, ipdu-keeps-objects, object-length, object-part, object-stored, object-bytes, object-fits, object-read, object-other, object-keeps-ipdus}
+use Rattle.state.proofs.RowLaws.{IpduFits, ObjectFits, ipdu-length, ipdu-part, ipdu-stored, ipdu-bytes, ipdu-fits, ipdu-read, ipdu-other, ipdu-keeps-objects, object-length, object-part, object-stored, object-bytes, object-fits, object-read, object-other, object-keeps-ipdus}
 use Rattle.state.proofs.Turns.{depth-sum}
 
 -- ---- an object's numbers in their ranges

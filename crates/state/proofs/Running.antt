@@ -8,11 +8,11 @@ use native.Mathlib.Omega.{arith}
 use borrow.Author.Tests.{le-leb}
 use lib.ListN.{length}
 use Rattle.memory.specs.Bytes.{Bytes, bytesOf, part, numberAt, replaced}
-use Rattle.memory.proofs.Laws.{bytesOf-length, bytesOf-bytes, part-apart, replaced-length, replaced-bytes, number-replaced}
+use Rattle.memory.proofs.Parts.{bytesOf-length, bytesOf-bytes, part-apart, replaced-length, replaced-bytes, number-replaced}
 use Rattle.table.specs.declared.Counts.{Counts}
 use Rattle.state.specs.Layout.{memorySize, runningAt, withRunning, ipduRow, objectRow, objectState}
 use Rattle.state.specs.Ranges.{Ready}
-use Rattle.state.proofs.Laws.{ipdu-read, object-read}
+use Rattle.state.proofs.RowLaws.{ipdu-read, object-read}
 
 module _ (m : List ℕ) (on : ℕ) (long : length m ≡ memorySize) where
   pub running-stored : on < 256 → runningAt (withRunning m on) ≡ on

@@ -12,7 +12,7 @@ use Rattle.memory.proofs.Search.{picked}
 use Rattle.table.specs.declared.Counts.{Counts}
 use Rattle.table.specs.Records.{ipduRecord, objectRecord}
 use Rattle.state.specs.Layout.{objectState, ipduState}
-use Rattle.message.specs.Objects.{object, lets, oldest, dequeue}
+use Rattle.message.specs.Objects.{object, passesFilter, oldest, dequeue}
 use Rattle.message.specs.Delivery.{deliverInside}
 use Rattle.calls.specs.declared.Answer.{Answer}
 use Rattle.calls.specs.declared.Answer.the-variants.{Done, WrongId, WrongLength, Limit, NoMessage, NotRequested}
@@ -46,7 +46,7 @@ module _ (t : List ℕ) (c : Counts) (m : List ℕ) where
   send-answered i v area =
       let call = send i v area in
       either call m area (isObject t c 1 i) _ _
-      (either call m area (lets (object t c i) v (objectState (deliverInside t c i v m) i)) _ _
+      (either call m area (passesFilter (object t c i) v (objectState (deliverInside t c i v m) i)) _ _
       (either call m area (wants t (object t c i)) _ _ (did call m area _ _ _) (did call m area 0 _ area))
       (did call m area 0 _ area))
       (wrong-id call m area)

@@ -10,11 +10,11 @@ use borrow.Author.Tests.{eq-eqb, ne-eqb, lt-ltb, le-leb}
 use lib.Dec.{eqb}
 use lib.ListN.{length, take, drop, take-append-drop}
 use Rattle.memory.specs.Bytes.{Bytes, part, replaced}
-use Rattle.memory.proofs.Laws.{part-replaced, part-apart, part-front}
+use Rattle.memory.proofs.Parts.{part-replaced, part-apart, part-front}
 use Rattle.memory.proofs.Search.{picked}
 use Rattle.bits.specs.declared.Order.{Order}
 use Rattle.bits.specs.Bits.{room, unpacked}
-use Rattle.bits.proofs.Laws.{unpacked-front}
+use Rattle.bits.proofs.RoundTrip.{unpacked-front}
 use Rattle.table.specs.declared.Counts.{Counts}
 use Rattle.table.specs.Records.{absent, counts, ipduRecord, objectRecord}
 use Rattle.table.specs.Rules.{orderOf}
@@ -22,11 +22,11 @@ use Rattle.table.specs.Decode.{objectOf}
 use Rattle.table.proofs.Accepted.{usable}
 use Rattle.state.specs.Layout.{areaSize, slotAt, ipduState, objectState}
 use Rattle.state.specs.Ranges.{Ready}
-use Rattle.state.proofs.Laws.{ipdu-part}
+use Rattle.state.proofs.RowLaws.{ipdu-part}
 use Rattle.state.proofs.Ready.{ready-bytes}
-use Rattle.message.specs.Objects.{object, lets, unpack, pack}
+use Rattle.message.specs.Objects.{object, passesFilter, unpack, pack}
 use Rattle.message.specs.Delivery.{deliverInside, deliverFrame}
-use Rattle.message.proofs.Kept.{ready-pack, ready-frame, ready-placed, unpack-lt}
+use Rattle.message.proofs.ObjectsInRange.{ready-pack, ready-frame, ready-placed, unpack-lt}
 use Rattle.message.proofs.Apart.{inside-row, frame-row}
 use Rattle.message.proofs.Deliveries.{inside-waiting, frame-waiting}
 use Rattle.transmission.specs.Requests.{ipdu, timerSet}
@@ -35,10 +35,10 @@ use Rattle.calls.specs.Calls.{isObject, request, sendIn, timed, indicationIn}
 use Rattle.calls.proofs.Records.{object-kind, ipdu-short}
 use Rattle.layer.specs.Admission.{workingMemory}
 use Rattle.layer.specs.Step.{Call, send, indication, toldSend, step}
-use Rattle.trace.specs.Book.{Book, sends, accepts, sent, advance}
+use Rattle.trace.specs.Book.{Book, sends, accepts, afterSend, advance}
 use Rattle.trace.specs.RoundTrip.{readingIn, Runs, memoryOf, Takes, Arrived}
-use Rattle.trace.proofs.Rows.{pack-behind, request-behind}
-use Rattle.trace.proofs.Frames.{start-bit, here, inner, judge, after, inner-ready, after-ready, sent-as}
+use Rattle.trace.proofs.SlotRows.{pack-behind, request-behind}
+use Rattle.trace.proofs.SendParts.{start-bit, here, inner, judge, after, inner-ready, after-ready, sent-as}
 use Rattle.trace.proofs.Receivers.{ready, Still, Reached, runs-live, still-twice, still-behind, still-other, reached-still, reached, arrives}
 
 -- ---- indication
@@ -111,7 +111,7 @@ module _ (t : List ℕ) (c : Counts) (m : List ℕ) (ready : Ready t c m) (j : �
       rw (lt-ltb k (c .ipdus) in-table, two, eq-eqb (length f) (ipduRecord t k .length) long)
 
   -- the object gets its bits of the frame
-  frame-reached : objectRecord t (c .ipdus) j .kind ≡ 2 → lets (object t c j) (readingIn (objectRecord t (c .ipdus) j) f) (objectState m j) ≡ true
+  frame-reached : objectRecord t (c .ipdus) j .kind ≡ 2 → passesFilter (object t c j) (readingIn (objectRecord t (c .ipdus) j) f) (objectState m j) ≡ true
       → Reached t c j low (readingIn (objectRecord t (c .ipdus) j) f) m (indicationIn t c (objectRecord t (c .ipdus) j .ipdu) true f m .memory)
   frame-reached kind passes =
       let k = objectRecord t (c .ipdus) j .ipdu in
@@ -162,7 +162,7 @@ module _ (t : List ℕ) (c : Counts) (m : List ℕ) (ready : Ready t c m) (i : �
       (λ p. first))
 
   -- a receiver inside gets the whole value, also where the sender's filter drops it
-  inside-reached : objectRecord t (c .ipdus) j .sender ≡ i → lets (object t c j) v (objectState m j) ≡ true
+  inside-reached : objectRecord t (c .ipdus) j .sender ≡ i → passesFilter (object t c j) v (objectState m j) ≡ true
       → Reached t c j low v m (sendIn t c i v area m .memory)
   inside-reached from passes =
       reached-still t c j low v m m (deliverInside t c i v m) (sendIn t c i v area m .memory) (record { row = refl; queue = refl })
@@ -180,7 +180,7 @@ inside-arrives t bt calls m r i j v area small long is from x =
     let n = memoryOf t calls m in
     let live = runs-live t bt calls m r in
     arrives t n live (send i v area) (small, λ i. omega arith) refl (le-leb areaSize (length area) long)
-    (picked (λ (b : Book). b .stopped ≡ false) (accepts t c (live .book) (toldSend i v) (length area)) (sent t c (live .book) i v) (live .book) (λ y. live .on) (λ y. live .on))
+    (picked (λ (b : Book). b .stopped ≡ false) (accepts t c (live .book) (toldSend i v) (length area)) (afterSend t c (live .book) i v) (live .book) (λ y. live .on) (λ y. live .on))
     j v x
     (inside-reached t c (workingMemory n) (ready t n live) i is v small area j (x .low) other from (x .passes))
   where

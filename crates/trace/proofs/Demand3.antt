@@ -11,14 +11,14 @@ use Rattle.calls.specs.Answers.{numberOf, valueOf}
 use Rattle.layer.specs.Step.{Call, start, step}
 use Rattle.trace.specs.Book.{Book, unopened, opened, advance}
 use Rattle.trace.specs.Demand3.{done, CallKept, AllAlike, SameAnswer, Demand3}
-use Rattle.trace.proofs.Hands.{hands-none}
+use Rattle.trace.proofs.FramesInArea.{in-area-none}
 use Rattle.trace.proofs.Steps.{start-accepted, start-follows}
-use Rattle.trace.proofs.Calls.{list-kept}
-use Rattle.trace.proofs.Pairs.{start-same, lists-same}
+use Rattle.trace.proofs.KeptLists.{list-kept}
+use Rattle.trace.proofs.Noninterference.{start-same, lists-same}
 
 -- the accepted start that a list begins with
 first-kept : (t m : List ℕ) → done (step t start m) ≡ true → CallKept t (counts t) unopened start (step t start m)
-first-kept t m e = record { judged = e; named = λ k z. absurd (hands-none k z); bits = λ k z. absurd (hands-none k z) }
+first-kept t m e = record { judged = e; named = λ k z. absurd (in-area-none k z); bits = λ k z. absurd (in-area-none k z) }
 
 pub demand-3 : (t : List ℕ) → Bytes t → Demand3 t
 unfolding advance
@@ -34,7 +34,7 @@ demand-3 t bt xs ys p q m n em en =
           number = ap numberOf (w .answer);
           value = ap valueOf (w .answer);
           word = refl;
-          frames = λ k e. absurd (hands-none k e);
+          frames = λ k e. absurd (in-area-none k e);
         },
         lists-same t (counts t) (a .table) bt xs ys p q (opened t (counts t)) (step t start m .memory) (step t start n .memory) f g (w .memory) (alike .1),
       ),

@@ -18,7 +18,7 @@ use Rattle.table.specs.declared.Counts.{Counts}
 use Rattle.table.specs.Records.{objectRecord}
 use Rattle.layer.specs.Step.{Call, Told, toldStart, toldStop, toldSend, toldInitialise, toldNothing, lentBytes, describe}
 use Rattle.state.specs.Layout.{areaSize}
-use Rattle.trace.specs.Book.{Entry, Book, enter, sends, openEntry, opened, keeps, accepts, entered, advance, bookAfter, ownsBit, messageBit, bookBit}
+use Rattle.trace.specs.Book.{Entry, Book, enter, sends, openEntry, opened, keeps, accepts, entered, advance, bookAfter, ownsIpduBit, messageBit, bookBit}
 
 abbrev pub has : ℕ → List Entry → Bool
 has i [] = false
@@ -123,30 +123,30 @@ module _ (t : List ℕ) (c : Counts) where
 
   pub record Owned (es : List Entry) (k p : ℕ) : Type 0 where
     pub entry : Entry
-    pub owns : ownsBit (objectRecord t (c .ipdus) (entry .object)) k p ≡ true
+    pub owns : ownsIpduBit (objectRecord t (c .ipdus) (entry .object)) k p ≡ true
     pub bit : bookBit t c es k p ≡ messageBit (objectRecord t (c .ipdus) (entry .object)) (entry .value) p
 
   module _ (k p : ℕ) where
-    owner : (i : ℕ) → ownsBit (objectRecord t (c .ipdus) i) k p ≡ true → (es : List Entry) → has i es ≡ true → Owned es k p
+    owner : (i : ℕ) → ownsIpduBit (objectRecord t (c .ipdus) i) k p ≡ true → (es : List Entry) → has i es ≡ true → Owned es k p
     owner i y [] h = absurd (true-not-false {b = true} refl (sym h))
     owner i y (e ∷ es) h =
         ⊎-elim
-        (λ (o : ownsBit (objectRecord t (c .ipdus) (e .object)) k p ≡ true). record { entry = e; owns = o; bit = rw o })
-        (λ (n : ownsBit (objectRecord t (c .ipdus) (e .object)) k p ≡ false).
+        (λ (o : ownsIpduBit (objectRecord t (c .ipdus) (e .object)) k p ≡ true). record { entry = e; owns = o; bit = rw o })
+        (λ (n : ownsIpduBit (objectRecord t (c .ipdus) (e .object)) k p ≡ false).
         ⊎-elim
         (λ (s : eqb (e .object) i ≡ true). absurd (true-not-false y (rw (eqb-true (e .object) i s) at n)))
         (λ (d : eqb (e .object) i ≡ false).
         let z = owner i y es (rw d at h) in
         record { entry = z .entry; owns = z .owns; bit = rw n (z .bit) })
         (true-or-false (eqb (e .object) i)))
-        (true-or-false (ownsBit (objectRecord t (c .ipdus) (e .object)) k p))
+        (true-or-false (ownsIpduBit (objectRecord t (c .ipdus) (e .object)) k p))
 
     -- a bit that a send object owns is that of an entry of an owner
-    pub owned : (es : List Entry) → Full es → (i : ℕ) → sends t c i ≡ true → ownsBit (objectRecord t (c .ipdus) i) k p ≡ true → Owned es k p
+    pub owned : (es : List Entry) → Full es → (i : ℕ) → sends t c i ≡ true → ownsIpduBit (objectRecord t (c .ipdus) i) k p ≡ true → Owned es k p
     owned es f i s y = owner i y es (f .each i s)
 
     -- any other bit is 0
-    pub unowned : (es : List Entry) → AllSent es → ((i : ℕ) → sends t c i ≡ true → ownsBit (objectRecord t (c .ipdus) i) k p ≡ false)
+    pub unowned : (es : List Entry) → AllSent es → ((i : ℕ) → sends t c i ≡ true → ownsIpduBit (objectRecord t (c .ipdus) i) k p ≡ false)
         → bookBit t c es k p ≡ 0
     unowned [] a none = refl
     unowned (e ∷ es) a none = rw (none (e .object) (a .0)) (unowned es (a .1) none)

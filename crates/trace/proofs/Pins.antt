@@ -11,7 +11,7 @@ use lib.Dec.{ltb}
 use lib.ListN.{getD, length, replicate}
 use Rattle.memory.specs.Bytes.{Bytes, value, bytesOf, part, numberAt, replaced}
 use Rattle.memory.proofs.Tests.{and-split, true-not-false}
-use Rattle.bits.specs.Bits.{bit, frameBit, place, room, number, frame, written, packed, unpacked, owns}
+use Rattle.bits.specs.Bits.{bit, frameBit, place, room, number, frameOf, written, packed, unpacked, owns}
 use Rattle.bits.specs.Slots.{position}
 use Rattle.filter.specs.Filters.{passes, filterOf, filterRight}
 use Rattle.table.specs.Records.{counts, ipduRecord, objectRecord}
@@ -20,9 +20,9 @@ use Rattle.table.specs.Check.{shareBit, overlapsLower, check}
 use Rattle.table.specs.Decode.{ipduOf, objectOf}
 use Rattle.state.specs.Layout.{memorySize, areaSize, runningAt, withRunning, ipduState, withIpduState, objectState, withObjectState}
 use Rattle.state.specs.Ranges.{ipduInRange, objectInRange, inRange}
-use Rattle.message.specs.Objects.{marked, filtered, delivered, deliver, pack}
+use Rattle.message.specs.Objects.{marked, afterFilter, delivered, deliver, pack}
 use Rattle.message.specs.Delivery.{deliverInside}
-use Rattle.transmission.specs.Requests.{goes, made, offered, handed}
+use Rattle.transmission.specs.Requests.{isDue, requestMade, afterRequest, copiedToArea}
 use Rattle.calls.specs.Answers.{numberOf, valueOf}
 use Rattle.calls.specs.Calls.{stopIn, wants, request, sendOf, sendIn}
 use Rattle.layer.specs.Admission.{admission, startAdmission}
@@ -174,10 +174,10 @@ started-n = refl
 -- the first send asks for I-PDU 0
 first-word : valueOf (step table (send 0 2748 here) (after (start ∷ []) m) .answer) ≡ 1
 unfolding
-    value bytesOf part numberAt replaced bit frameBit place room number frame written packed unpacked owns position passes filterOf filterRight
+    value bytesOf part numberAt replaced bit frameBit place room number frameOf written packed unpacked owns position passes filterOf filterRight
     counts ipduRecord objectRecord offsetsRight headerRight ipduRight references objectRight shareBit overlapsLower check ipduOf objectOf
-    runningAt withRunning ipduState withIpduState objectState withObjectState ipduInRange objectInRange inRange marked filtered delivered deliver pack
-    deliverInside goes made offered handed wants request sendOf sendIn admission startAdmission blank prepared started step
+    runningAt withRunning ipduState withIpduState objectState withObjectState ipduInRange objectInRange inRange marked afterFilter delivered deliver pack
+    deliverInside isDue requestMade afterRequest copiedToArea wants request sendOf sendIn admission startAdmission blank prepared started step
 first-word = refl
 
 requested : claim.names (valueOf (step table (send 0 2748 here) (after (start ∷ []) m) .answer)) 0

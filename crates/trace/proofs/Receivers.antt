@@ -20,11 +20,11 @@ use Rattle.table.specs.Decode.{objectOf}
 use Rattle.state.specs.declared.ObjectState.{ObjectState}
 use Rattle.state.specs.Layout.{objectRows, objectRow, objectState, withObjectState}
 use Rattle.state.specs.Ranges.{Ready}
-use Rattle.state.proofs.Laws.{object-part, object-other, object-read}
+use Rattle.state.proofs.RowLaws.{object-part, object-other, object-read}
 use Rattle.state.proofs.Ready.{object-row}
-use Rattle.message.specs.Objects.{object, lets, filtered, marked, delivered, deliver, oldest, dequeue}
+use Rattle.message.specs.Objects.{object, passesFilter, afterFilter, marked, delivered, deliver, oldest, dequeue}
 use Rattle.message.specs.Queues.{waiting}
-use Rattle.message.proofs.Kept.{ready-held}
+use Rattle.message.proofs.ObjectsInRange.{ready-held}
 use Rattle.message.proofs.Queues.{waiting-length, waiting-oldest, waiting-arrived, waiting-same}
 use Rattle.calls.specs.declared.Answer.the-variants.{Done}
 use Rattle.calls.specs.Answers.{Outcome, outcome, numberOf, valueOf}
@@ -34,7 +34,7 @@ use Rattle.layer.specs.Step.{Call, start, receive, longEnough, describe, step}
 use Rattle.trace.specs.Book.{Book, opened, advance, bookAfter}
 use Rattle.trace.specs.Demand3.{Typed}
 use Rattle.trace.specs.RoundTrip.{Runs, memoryOf, Takes, Arrived}
-use Rattle.trace.proofs.Frames.{after}
+use Rattle.trace.proofs.SendParts.{after}
 use Rattle.trace.proofs.Steps.{Follows, start-accepted, start-follows, front-of, admission-is, own-long, step-follows, list-follows}
 
 -- ---- a layer that runs
@@ -189,8 +189,8 @@ module _ (t : List ℕ) (c : Counts) (j : ℕ) (low : j < c .objects) where
       }
 
   -- by one delivery of a value that passes its filter
-  module _ (v : ℕ) (m n : List ℕ) (ready : Ready t c m) (small : v < 2 ^ 32) (passes : lets (object t c j) v (objectState m j) ≡ true) where
-    pub reached : objectState n j ≡ delivered (lets (object t c j) v (objectState m j)) (object t c j .depth) v (objectState m j)
+  module _ (v : ℕ) (m n : List ℕ) (ready : Ready t c m) (small : v < 2 ^ 32) (passes : passesFilter (object t c j) v (objectState m j) ≡ true) where
+    pub reached : objectState n j ≡ delivered (passesFilter (object t c j) v (objectState m j)) (object t c j .depth) v (objectState m j)
         → waiting (object t c j .depth) j n ≡ waiting (object t c j .depth) j (deliver (object t c j) j v m) → Reached v m n
     reached row queue =
         record {
@@ -199,8 +199,8 @@ module _ (t : List ℕ) (c : Counts) (j : ℕ) (low : j < c .objects) where
         }
       where
         stored : object t c j .depth ≡ 0
-            → delivered (lets (object t c j) v (objectState m j)) (object t c j .depth) v (objectState m j) .value ≡ v
-        stored flat = unfold delivered filtered marked in rw (passes, flat)
+            → delivered (passesFilter (object t c j) v (objectState m j)) (object t c j .depth) v (objectState m j) .value ≡ v
+        stored flat = unfold delivered afterFilter marked in rw (passes, flat)
 
 -- over a layer that runs: a receive gives the value, or it waits behind the others
 pub arrives : (t m : List ℕ) (l : Live t m) (call : Call) → Typed call → describe call .running ≡ true → longEnough (describe call .lent) ≡ true

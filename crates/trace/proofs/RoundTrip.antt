@@ -12,12 +12,12 @@ use lib.Dec.{ltb, eqb}
 use lib.ListN.{length}
 use Rattle.memory.specs.Bytes.{Bytes}
 use Rattle.memory.specs.Search.{anyBelow}
-use Rattle.memory.proofs.Laws.{part-length, part-bytes}
+use Rattle.memory.proofs.Parts.{part-length, part-bytes}
 use Rattle.memory.proofs.Search.{Found, found, nowhere, there, any-false, any-some, any-true, least-at}
 use Rattle.memory.proofs.Tests.{and-split, eq-or-ne, lt-or-le, true-or-false, true-not-false}
 use Rattle.bits.specs.declared.Order.{Order}
 use Rattle.bits.specs.Bits.{bit, frameBit, place, written, unpacked, owns}
-use Rattle.bits.proofs.Laws.{written-own}
+use Rattle.bits.proofs.RoundTrip.{written-own}
 use Rattle.bits.proofs.Numbers.{number-ext, number-bits}
 use Rattle.bits.proofs.Places.{Run, along, place-inside}
 use Rattle.table.specs.declared.Counts.{Counts}
@@ -32,13 +32,13 @@ use Rattle.calls.specs.Answers.{Outcome}
 use Rattle.calls.proofs.Records.{object-there, ipdu-short}
 use Rattle.layer.specs.Admission.{workingMemory}
 use Rattle.layer.specs.Step.{Call, start, indication, step}
-use Rattle.trace.specs.Book.{Entry, Book, unopened, sends, lastOf, opened, advance, bookAfter, ownsBit, messageBit, bookBit}
+use Rattle.trace.specs.Book.{Entry, Book, unopened, sends, lastOf, opened, advance, bookAfter, ownsIpduBit, messageBit, bookBit}
 use Rattle.trace.specs.Demand3.{Typed, AllTyped, done, wordOf, frame, names, CallKept, AllKept}
 use Rattle.trace.specs.RoundTrip.{readingIn, FramesRead, AllRead, Runs, memoryOf, Takes, Arrived, Like}
 use Rattle.trace.proofs.Entries.{has, AllSent, Full, advance-full, started-full}
-use Rattle.trace.proofs.Hands.{hands-none}
-use Rattle.trace.proofs.Steps.{start-accepted, step-follows, step-hands}
-use Rattle.trace.proofs.Calls.{list-kept}
+use Rattle.trace.proofs.FramesInArea.{in-area-none}
+use Rattle.trace.proofs.Steps.{start-accepted, step-follows, step-frames}
+use Rattle.trace.proofs.KeptLists.{list-kept}
 use Rattle.trace.proofs.Demand3.{demand-3}
 use Rattle.trace.proofs.Receivers.{runs-follows}
 use Rattle.trace.proofs.Arrivals.{indication-arrives}
@@ -76,7 +76,7 @@ module _ (t : List ℕ) (c : Counts) (right : Right t c) (k : ℕ) (in-table : k
     ipdu : objectRecord t (c .ipdus) i .ipdu ≡ k
     owns : owns (orderOf (objectRecord t (c .ipdus) i .order)) (objectRecord t (c .ipdus) i .start) (objectRecord t (c .ipdus) i .size) p ≡ true
 
-  owner : (i p : ℕ) → sends t c i ≡ true → ownsBit (objectRecord t (c .ipdus) i) k p ≡ true → Owner i p
+  owner : (i p : ℕ) → sends t c i ≡ true → ownsIpduBit (objectRecord t (c .ipdus) i) k p ≡ true → Owner i p
   owner i p s y =
       let r = objectRecord t (c .ipdus) i in
       let o = orderOf (r .order) in
@@ -104,18 +104,18 @@ module _ (t : List ℕ) (c : Counts) (right : Right t c) (k : ℕ) (in-table : k
       let share : shareBit s r ≡ true = rw (y .sent, x .sent, eq-eqb (s .ipdu) (r .ipdu) (y .ipdu ∙ sym (x .ipdu)), both) in
       true-not-false share (any-false i (λ n. shareBit (objectRecord t (c .ipdus) n) r) (right .apart i h) j less)
 
-  module _ (i p : ℕ) (s : sends t c i ≡ true) (mine : ownsBit (objectRecord t (c .ipdus) i) k p ≡ true) where
+  module _ (i p : ℕ) (s : sends t c i ≡ true) (mine : ownsIpduBit (objectRecord t (c .ipdus) i) k p ≡ true) where
     -- no other send object owns it
-    others : (j : ℕ) → sends t c j ≡ true → (j ≡ i → ⊥) → ownsBit (objectRecord t (c .ipdus) j) k p ≡ false
+    others : (j : ℕ) → sends t c j ≡ true → (j ≡ i → ⊥) → ownsIpduBit (objectRecord t (c .ipdus) j) k p ≡ false
     others j sj ne =
         ⊎-elim
-        (λ (y : ownsBit (objectRecord t (c .ipdus) j) k p ≡ true).
+        (λ (y : ownsIpduBit (objectRecord t (c .ipdus) j) k p ≡ true).
         ⊎-elim
         (λ (less : j < i). absurd (not-lower i j p less (object-there t c 1 i s) (owner i p s mine) (owner j p sj y)))
         (λ (more : i ≤ j). absurd (not-lower j i p (omega (arith, more, ne)) (object-there t c 1 j sj) (owner j p sj y) (owner i p s mine)))
         (lt-or-le j i))
         (λ n. n)
-        (true-or-false (ownsBit (objectRecord t (c .ipdus) j) k p))
+        (true-or-false (ownsIpduBit (objectRecord t (c .ipdus) j) k p))
 
     -- a bit of an object is that of its own last entry
     last-bit : (es : List Entry) → AllSent t c es → has i es ≡ true → bookBit t c es k p ≡ messageBit (objectRecord t (c .ipdus) i) (lastOf i es) p
@@ -165,7 +165,7 @@ pub frames-read : (t : List ℕ) → Bytes t → (xs : List Call) → AllTyped x
     → AllRead t (counts t) unopened (start ∷ xs) m
 unfolding advance
 frames-read t bt xs y m e = (
-  λ k i z. absurd (hands-none k z),
+  λ k i z. absurd (in-area-none k z),
   list-read t (counts t) (accepted-right t (counts t) (start-accepted t m e .table)) xs (opened t (counts t)) (step t start m .memory)
       (started-full t (counts t) []) (demand-3 t bt xs xs y y m m e e .0 .1),
 )
@@ -191,7 +191,7 @@ call-hands t bt xs m r call y k i e s at =
     let table = start-accepted t m (r .accepted) .table in
     let f = runs-follows t bt xs m r in
     let kept = list-kept t c table bt (call ∷ []) (y, tt) b n f .0 in
-    let slot = step-hands t c table bt b n f call y .slot k e in
+    let slot = step-frames t c table bt b n f call y .slot k e in
     let next = step-follows t c table bt b n f call y .agrees .ready in
     let w = workingMemory (step t call n .memory) in
     let L = ipduRecord t k .length in

@@ -17,7 +17,7 @@ use Rattle.table.specs.declared.Counts.{Counts}
 use Rattle.table.specs.Records.{objectRecord}
 use Rattle.state.specs.Layout.{areaSize, objectState}
 use Rattle.state.specs.Ranges.{Ready}
-use Rattle.message.specs.Objects.{object, lets}
+use Rattle.message.specs.Objects.{object, passesFilter}
 use Rattle.message.specs.Delivery.{deliverInside}
 use Rattle.calls.specs.Answers.{Outcome}
 use Rattle.calls.specs.Calls.{isObject, stopIn, wants, request, sendOf, sendIn, initialiseIn, receiveIn, statusIn, marksIn, clearMarksIn, periodicIn, indicationIn, confirmIn}
@@ -25,14 +25,14 @@ use Rattle.calls.specs.Tick.{tickIn}
 use Rattle.layer.specs.Step.{Call, start, stop, send, initialise, receive, status, marks, clearMarks, startPeriodic, stopPeriodic, indication, confirm, tick, noArea, lentBytes, longEnough, toldNothing, Description, described, describe}
 use Rattle.trace.specs.Book.{Book, sends, initialised, entered}
 use Rattle.trace.specs.Demand3.{Small, done, wordIn, Judged}
-use Rattle.trace.proofs.Agree.{Agrees, agrees-same}
-use Rattle.trace.proofs.Unseen.{Unseen}
-use Rattle.trace.proofs.Kept.{agrees-send}
-use Rattle.trace.proofs.Others.{agrees-initialise, agrees-stop, unseen-receive, unseen-status, unseen-marks, unseen-clear, unseen-periodic, unseen-indication, unseen-confirm}
-use Rattle.trace.proofs.Opening.{agrees-start}
-use Rattle.trace.proofs.Hands.{Hands}
-use Rattle.trace.proofs.Sending.{hands-zero, send-hands}
-use Rattle.trace.proofs.Ticked.{unseen-tick, tick-hands}
+use Rattle.trace.proofs.Refines.{Refines, refines-same}
+use Rattle.trace.proofs.BookUnchanged.{BookUnchanged}
+use Rattle.trace.proofs.SendRefines.{refines-send}
+use Rattle.trace.proofs.CallsRefine.{refines-initialise, refines-stop, unchanged-receive, unchanged-status, unchanged-marks, unchanged-clear, unchanged-periodic, unchanged-indication, unchanged-confirm}
+use Rattle.trace.proofs.StartRefines.{refines-start}
+use Rattle.trace.proofs.FramesInArea.{FramesInArea}
+use Rattle.trace.proofs.SendFrames.{in-area-zero, send-in-area}
+use Rattle.trace.proofs.TickFrames.{unchanged-tick, tick-in-area}
 use Rattle.trace.proofs.Answered.{Answered, did, send-answered, initialise-answered, receive-answered, status-answered, marks-answered, clear-marks-answered, indication-answered, confirm-answered}
 
 -- the call goes on: it needs no running layer, or its area is long enough and the layer is not stopped
@@ -45,27 +45,27 @@ pub record Shows (t : List ℕ) (c : Counts) (call : Call) (d : Description) : T
   -- it is done where the book accepts it
   pub judged : (b : Book) (m : List ℕ) → Judged t c b (d .told) (length (lentBytes (d .lent))) (goesOn d b && done (d .does t c m))
   -- it keeps every number in its range, and memory as the book says; where it is not done the book stays
-  pub book : (b : Book) (m : List ℕ) → Agrees t c b m → Small (d .told) → Bytes (d .bytes) → (d .running ≡ true → longEnough (d .lent) ≡ true)
-      → Agrees t c (pick (done (d .does t c m)) (entered t c b (d .told)) b) (d .does t c m .memory)
+  pub book : (b : Book) (m : List ℕ) → Refines t c b m → Small (d .told) → Bytes (d .bytes) → (d .running ≡ true → longEnough (d .lent) ≡ true)
+      → Refines t c (pick (done (d .does t c m)) (entered t c b (d .told)) b) (d .does t c m .memory)
   -- the slots that its word names hold the I-PDUs
   pub frames : (m : List ℕ) → Ready t c m → Small (d .told) → (d .running ≡ true → longEnough (d .lent) ≡ true)
-      → Hands t c (wordIn (d .lent) (d .does t c m .answer)) (d .does t c m .area) (d .does t c m .memory)
+      → FramesInArea t c (wordIn (d .lent) (d .does t c m .answer)) (d .does t c m .area) (d .does t c m .memory)
 
 module _ (t : List ℕ) (c : Counts) where
   -- ---- a call that the book does not see
 
-  unseen-book : (b : Book) (m n : List ℕ) (went : Bool) → Agrees t c b m → Unseen t c m n → Agrees t c (pick went b b) n
-  unseen-book b m n true a u = agrees-same t c b m n a (u .ready) (u .same)
-  unseen-book b m n false a u = agrees-same t c b m n a (u .ready) (u .same)
+  unchanged-book : (b : Book) (m n : List ℕ) (went : Bool) → Refines t c b m → BookUnchanged t c m n → Refines t c (pick went b b) n
+  unchanged-book b m n true a u = refines-same t c b m n a (u .ready) (u .same)
+  unchanged-book b m n false a u = refines-same t c b m n a (u .ready) (u .same)
 
-  unseen-row : (call : Call) (bytes : List ℕ) (does : List ℕ → Counts → List ℕ → Outcome) → ((m : List ℕ) → Answered call m [] (does t c m))
-      → ((m : List ℕ) → Ready t c m → Bytes bytes → Unseen t c m (does t c m .memory)) → Shows t c call (described noArea true toldNothing bytes does)
-  unseen-row call bytes does answered unseen =
+  unchanged-row : (call : Call) (bytes : List ℕ) (does : List ℕ → Counts → List ℕ → Outcome) → ((m : List ℕ) → Answered call m [] (does t c m))
+      → ((m : List ℕ) → Ready t c m → Bytes bytes → BookUnchanged t c m (does t c m .memory)) → Shows t c call (described noArea true toldNothing bytes does)
+  unchanged-row call bytes does answered unseen =
       record {
         answered = answered;
         judged = λ b m. tt;
-        book = λ b m a y z e. unseen-book b m (does t c m .memory) (done (does t c m)) a (unseen m (a .ready) z);
-        frames = λ m ready y e. hands-zero t c _ _;
+        book = λ b m a y z e. unchanged-book b m (does t c m .memory) (done (does t c m)) a (unseen m (a .ready) z);
+        frames = λ m ready y e. in-area-zero t c _ _;
       }
 
   -- ---- what a send and an initialise are done for
@@ -76,7 +76,7 @@ module _ (t : List ℕ) (c : Counts) where
       ⊎-elim
       (λ (y : isObject t c 1 i ≡ true).
       rw y
-      (picked (λ (o : Outcome). done o ≡ true) (lets (object t c i) v (objectState (deliverInside t c i v m) i)) _ _
+      (picked (λ (o : Outcome). done o ≡ true) (passesFilter (object t c i) v (objectState (deliverInside t c i v m) i)) _ _
       (λ e. picked (λ (o : Outcome). done o ≡ true) (wants t (object t c i)) _ _ (λ w. refl) (λ w. refl)) (λ e. refl)))
       (λ (n : isObject t c 1 i ≡ false). rw n)
       (true-or-false (isObject t c 1 i))
@@ -87,7 +87,7 @@ module _ (t : List ℕ) (c : Counts) where
       ⊎-elim (λ (y : ltb i (c .objects) ≡ true). rw y) (λ (n : ltb i (c .objects) ≡ false). rw n) (true-or-false (ltb i (c .objects)))
 
   -- an initialise of no object enters nothing
-  initialise-book : (l k : Bool) (p b : Book) (n : List ℕ) → Agrees t c (pick (l && k) p b) n → Agrees t c (pick l (pick (l && k) p b) b) n
+  initialise-book : (l k : Bool) (p b : Book) (n : List ℕ) → Refines t c (pick (l && k) p b) n → Refines t c (pick l (pick (l && k) p b) b) n
   initialise-book true k p b n a = a
   initialise-book false k p b n a = a
 
@@ -107,22 +107,22 @@ module _ (t : List ℕ) (c : Counts) where
       record {
         answered = λ m. did start m [] 0 _ [];
         judged = λ b m. refl;
-        book = λ b m a y z e. agrees-start t c (a .ready .right) (a .ready .tables);
-        frames = λ m ready y e. hands-zero t c _ _;
+        book = λ b m a y z e. refines-start t c (a .ready .right) (a .ready .tables);
+        frames = λ m ready y e. in-area-zero t c _ _;
       }
   shows stop =
       record {
         answered = λ m. unfold stopIn in did stop m [] 0 _ [];
         judged = λ b m. unfold stopIn in whole (not (b .stopped));
-        book = λ b m a y z e. unfold stopIn in (unfold stopIn in agrees-stop t c b m a);
-        frames = λ m ready y e. hands-zero t c _ _;
+        book = λ b m a y z e. unfold stopIn in (unfold stopIn in refines-stop t c b m a);
+        frames = λ m ready y e. in-area-zero t c _ _;
       }
   shows (send i v area) =
       record {
         answered = λ m. send-answered t c m i v area;
         judged = λ b m. ap (λ (x : Bool). leb areaSize (length area) && not (b .stopped) && x) (send-done i v area m);
-        book = λ b m a y z e. rw (send-done i v area m) (agrees-send t c b m a i v y area);
-        frames = λ m ready y e. send-hands t c i v y area (leb-true areaSize (length area) (e refl)) m ready;
+        book = λ b m a y z e. rw (send-done i v area m) (refines-send t c b m a i v y area);
+        frames = λ m ready y e. send-in-area t c i v y area (leb-true areaSize (length area) (e refl)) m ready;
       }
   shows (initialise i v) =
       record {
@@ -130,25 +130,25 @@ module _ (t : List ℕ) (c : Counts) where
         judged = λ b m. ap (λ (x : Bool). not (b .stopped) && x) (initialise-done i v m);
         book = λ b m a y z e.
             rw (initialise-done i v m)
-            (initialise-book (ltb i (c .objects)) (eqb (objectRecord t (c .ipdus) i .kind) 1) _ b _ (agrees-initialise t c b m a i v y));
-        frames = λ m ready y e. hands-zero t c _ _;
+            (initialise-book (ltb i (c .objects)) (eqb (objectRecord t (c .ipdus) i .kind) 1) _ b _ (refines-initialise t c b m a i v y));
+        frames = λ m ready y e. in-area-zero t c _ _;
       }
-  shows (receive i) = unseen-row (receive i) [] (λ t c. receiveIn t c i) (λ m. receive-answered t c m i) (λ m ready z. unseen-receive t c m ready i)
-  shows (status i) = unseen-row (status i) [] (λ t c. statusIn t c i) (λ m. status-answered t c m i) (λ m ready z. unseen-status t c m ready i)
-  shows (marks i) = unseen-row (marks i) [] (λ t c. marksIn c i) (λ m. marks-answered t c m i) (λ m ready z. unseen-marks t c m ready i)
-  shows (clearMarks i) = unseen-row (clearMarks i) [] (λ t c. clearMarksIn c i) (λ m. clear-marks-answered t c m i) (λ m ready z. unseen-clear t c m ready i)
-  shows startPeriodic = unseen-row startPeriodic [] (periodicIn true) (λ m. periodic-answered startPeriodic true m) (λ m ready z. unseen-periodic t c m ready true)
-  shows stopPeriodic = unseen-row stopPeriodic [] (periodicIn false) (λ m. periodic-answered stopPeriodic false m) (λ m ready z. unseen-periodic t c m ready false)
+  shows (receive i) = unchanged-row (receive i) [] (λ t c. receiveIn t c i) (λ m. receive-answered t c m i) (λ m ready z. unchanged-receive t c m ready i)
+  shows (status i) = unchanged-row (status i) [] (λ t c. statusIn t c i) (λ m. status-answered t c m i) (λ m ready z. unchanged-status t c m ready i)
+  shows (marks i) = unchanged-row (marks i) [] (λ t c. marksIn c i) (λ m. marks-answered t c m i) (λ m ready z. unchanged-marks t c m ready i)
+  shows (clearMarks i) = unchanged-row (clearMarks i) [] (λ t c. clearMarksIn c i) (λ m. clear-marks-answered t c m i) (λ m ready z. unchanged-clear t c m ready i)
+  shows startPeriodic = unchanged-row startPeriodic [] (periodicIn true) (λ m. periodic-answered startPeriodic true m) (λ m ready z. unchanged-periodic t c m ready true)
+  shows stopPeriodic = unchanged-row stopPeriodic [] (periodicIn false) (λ m. periodic-answered stopPeriodic false m) (λ m ready z. unchanged-periodic t c m ready false)
   shows (indication k good bytes) =
-      unseen-row (indication k good bytes) bytes (λ t c. indicationIn t c k good bytes) (λ m. indication-answered t c m k good bytes)
-      (λ m ready z. unseen-indication t c m ready k good bytes z)
-  shows (confirm k good) = unseen-row (confirm k good) [] (λ t c. confirmIn t c k good) (λ m. confirm-answered t c m k good) (λ m ready z. unseen-confirm t c m ready k good)
+      unchanged-row (indication k good bytes) bytes (λ t c. indicationIn t c k good bytes) (λ m. indication-answered t c m k good bytes)
+      (λ m ready z. unchanged-indication t c m ready k good bytes z)
+  shows (confirm k good) = unchanged-row (confirm k good) [] (λ t c. confirmIn t c k good) (λ m. confirm-answered t c m k good) (λ m ready z. unchanged-confirm t c m ready k good)
   shows (tick area) =
       record {
         answered = λ m. unfold tickIn in did (tick area) m area _ _ _;
         judged = λ b m. tt;
         book = λ b m a y z e.
-            unseen-book b m (tickIn t c area m .memory) (done (tickIn t c area m)) a
-            (unseen-tick t c area m (a .ready) (leb-true areaSize (length area) (e refl)));
-        frames = λ m ready y e. tick-hands t c area m ready (leb-true areaSize (length area) (e refl));
+            unchanged-book b m (tickIn t c area m .memory) (done (tickIn t c area m)) a
+            (unchanged-tick t c area m (a .ready) (leb-true areaSize (length area) (e refl)));
+        frames = λ m ready y e. tick-in-area t c area m ready (leb-true areaSize (length area) (e refl));
       }

@@ -33,10 +33,10 @@ use Rattle.layer.specs.Step.{Call, start, Lent, noArea, requests, lentBytes, lo
 use Rattle.layer.specs.Step.{Description, describe, admissionFor, step, memoryAfter}
 use Rattle.trace.specs.Book.{Book, opened, entered, next, advance, bookAfter}
 use Rattle.trace.specs.Demand3.{Typed, AllTyped, done, wordIn, wordOf, Judged}
-use Rattle.trace.proofs.Agree.{Agrees}
-use Rattle.trace.proofs.Hands.{Hands}
-use Rattle.trace.proofs.Opening.{agrees-start}
-use Rattle.trace.proofs.Sending.{hands-zero}
+use Rattle.trace.proofs.Refines.{Refines}
+use Rattle.trace.proofs.FramesInArea.{FramesInArea}
+use Rattle.trace.proofs.StartRefines.{refines-start}
+use Rattle.trace.proofs.SendFrames.{in-area-zero}
 use Rattle.trace.proofs.Answered.{Answered}
 use Rattle.trace.proofs.Shows.{goesOn, Shows, shows}
 
@@ -67,13 +67,13 @@ start-accepted t m e = cases (check t) refl e
 -- a memory that is long enough and agrees with the book
 pub record Follows (t : List ℕ) (c : Counts) (b : Book) (m : List ℕ) : Type 0 where
   pub long : memorySize ≤ length m
-  pub agrees : Agrees t c b (workingMemory m)
+  pub agrees : Refines t c b (workingMemory m)
 
 -- the first 8,192 bytes and the rest
 pub front-of : (x m : List ℕ) → length x ≡ memorySize → workingMemory (x ++ drop memorySize m) ≡ x
 front-of x m e = rw e at (take-append-seam x (drop memorySize m))
 
-follows : (t : List ℕ) (c : Counts) (b : Book) (x m : List ℕ) → Agrees t c b x → Follows t c b (x ++ drop memorySize m)
+follows : (t : List ℕ) (c : Counts) (b : Book) (x m : List ℕ) → Refines t c b x → Follows t c b (x ++ drop memorySize m)
 follows t c b x m a =
     record {
       long = omega (arith, length-append x (drop memorySize m), a .ready .long);
@@ -116,7 +116,7 @@ module _ (t : List ℕ) (c : Counts) (accepted : check t ≡ Accepted c) (bt : B
   pub start-follows : (m : List ℕ) → memorySize ≤ length m → Follows t c (opened t c) (step t start m .memory)
   unfolding step startAdmission
   start-follows m long =
-      rw (accepted, le-leb memorySize (length m) long) (follows t c (opened t c) (started t c) m (agrees-start t c (accepted-right t c accepted) bt))
+      rw (accepted, le-leb memorySize (length m) long) (follows t c (opened t c) (started t c) m (refines-start t c (accepted-right t c accepted) bt))
 
   module _ (b : Book) (m : List ℕ) (f : Follows t c b m) where
     pub admission-is : (d : Description) → admissionFor d t m ≡ admissionBy d c b
@@ -177,12 +177,12 @@ module _ (t : List ℕ) (c : Counts) (accepted : check t ≡ Accepted c) (bt : B
           by toldNothing n went j = both went
 
       module _ (y : Typed call) where
-        own-agrees : (describe call .running ≡ true → longEnough (describe call .lent) ≡ true)
-            → Agrees t c (pick (done own) (entered t c b (describe call .told)) b) (own .memory)
-        own-agrees = shows t c call .book b (workingMemory m) (f .agrees) (y .0) (y .1)
+        own-refines : (describe call .running ≡ true → longEnough (describe call .lent) ≡ true)
+            → Refines t c (pick (done own) (entered t c b (describe call .told)) b) (own .memory)
+        own-refines = shows t c call .book b (workingMemory m) (f .agrees) (y .0) (y .1)
 
         pub own-long : (describe call .running ≡ true → longEnough (describe call .lent) ≡ true) → length (own .memory) ≡ memorySize
-        own-long l = own-agrees l .ready .long
+        own-long l = own-refines l .ready .long
 
         pub step-follows : Follows t c (advance t c b call) (step t call m .memory)
         unfolding step
@@ -192,20 +192,20 @@ module _ (t : List ℕ) (c : Counts) (accepted : check t ≡ Accepted c) (bt : B
                 → Follows t c
                 (pick (done (ifAdmitted (admissionBy (describe call) c b) m (lentBytes (describe call .lent)) (describe call .does t))) (entered t c b (describe call .told)) b)
                 (ifAdmitted (admissionBy (describe call) c b) m (lentBytes (describe call .lent)) (describe call .does t) .memory)
-            by (goes e l on) = rw e (follows t c _ (own .memory) m (own-agrees l))
+            by (goes e l on) = rw e (follows t c _ (own .memory) m (own-refines l))
             by (stays a e done six word off) = rw (e, ne-eqb (numberOf a) 0 done) f
 
-        pub step-hands : Hands t c (wordOf call (step t call m .answer)) (step t call m .area) (workingMemory (step t call m .memory))
+        pub step-frames : FramesInArea t c (wordOf call (step t call m .answer)) (step t call m .area) (workingMemory (step t call m .memory))
         unfolding step
-        step-hands = rw (admission-is (describe call)) (by (admits (describe call) c b))
+        step-frames = rw (admission-is (describe call)) (by (admits (describe call) c b))
           where
             by : Admits (describe call) c b
-                → Hands t c
+                → FramesInArea t c
                 (wordIn (describe call .lent) (ifAdmitted (admissionBy (describe call) c b) m (lentBytes (describe call .lent)) (describe call .does t) .answer))
                 (ifAdmitted (admissionBy (describe call) c b) m (lentBytes (describe call .lent)) (describe call .does t) .area)
                 (workingMemory (ifAdmitted (admissionBy (describe call) c b) m (lentBytes (describe call .lent)) (describe call .does t) .memory))
             by (goes e l on) = rw (e, front-of (own .memory) m (own-long l)) (shows t c call .frames (workingMemory m) (f .agrees .ready) (y .0) l)
-            by (stays a e done six word off) = rw (e, no-word (describe call .lent) a word) (hands-zero t c _ _)
+            by (stays a e done six word off) = rw (e, no-word (describe call .lent) a word) (in-area-zero t c _ _)
 
   -- ---- a list of calls
 

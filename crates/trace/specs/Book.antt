@@ -58,14 +58,14 @@ judges r new old count = passes (filterOf (r .filter) (r .first) (r .second)) ne
 abbrev pub keeps : List ℕ → Counts → Book → ℕ → ℕ → Bool
 keeps t c b i v = judges (objectRecord t (c .ipdus) i) v (lastOf i (b .entries)) (b .counts i)
 
-abbrev pub counted : ℕ → (ℕ → ℕ) → ℕ → ℕ
-counted i counts j = pick (eqb j i) ((counts j + 1) % 256) (counts j)
+abbrev pub nextCounts : ℕ → (ℕ → ℕ) → ℕ → ℕ
+nextCounts i counts j = pick (eqb j i) ((counts j + 1) % 256) (counts j)
 
-abbrev pub sent : List ℕ → Counts → Book → ℕ → ℕ → Book
-sent t c b i v =
+abbrev pub afterSend : List ℕ → Counts → Book → ℕ → ℕ → Book
+afterSend t c b i v =
     record {
       entries = pick (keeps t c b i v) (enter i v (b .entries)) (b .entries);
-      counts = counted i (b .counts);
+      counts = nextCounts i (b .counts);
       stopped = b .stopped;
     }
 
@@ -87,7 +87,7 @@ accepts t c b toldNothing n = true
 abbrev pub entered : List ℕ → Counts → Book → Told → Book
 entered t c b toldStart = opened t c
 entered t c b toldStop = record { entries = b .entries; counts = b .counts; stopped = true }
-entered t c b (toldSend i v) = sent t c b i v
+entered t c b (toldSend i v) = afterSend t c b i v
 entered t c b (toldInitialise i v) = initialised t c b i v
 entered t c b toldNothing = b
 
@@ -106,8 +106,8 @@ bookAfter t c b (call ∷ calls) = bookAfter t c (advance t c b call) calls
 -- ---- frames
 
 -- the object owns bit p of I-PDU k: its message bits go there
-abbrev pub ownsBit : ObjectRecord → ℕ → ℕ → Bool
-ownsBit r k p = eqb (r .ipdu) k && owns (orderOf (r .order)) (r .start) (r .size) p
+abbrev pub ownsIpduBit : ObjectRecord → ℕ → ℕ → Bool
+ownsIpduBit r k p = eqb (r .ipdu) k && owns (orderOf (r .order)) (r .start) (r .size) p
 
 -- the message bit that goes to bit p
 abbrev pub messageBit : ObjectRecord → ℕ → ℕ → ℕ
@@ -117,4 +117,4 @@ messageBit r v p = bit v (least (r .size) (λ n. eqb (place (orderOf (r .order))
 abbrev pub bookBit : List ℕ → Counts → List Entry → ℕ → ℕ → ℕ
 bookBit t c [] k p = 0
 bookBit t c (e ∷ es) k p =
-    pick (ownsBit (objectRecord t (c .ipdus) (e .object)) k p) (messageBit (objectRecord t (c .ipdus) (e .object)) (e .value) p) (bookBit t c es k p)
+    pick (ownsIpduBit (objectRecord t (c .ipdus) (e .object)) k p) (messageBit (objectRecord t (c .ipdus) (e .object)) (e .value) p) (bookBit t c es k p)

@@ -10,7 +10,7 @@ use Rattle.table.specs.declared.ObjectRecord.{ObjectRecord}
 use Rattle.table.specs.Records.{counts, ipduRecord, objectRecord}
 use Rattle.table.specs.Rules.{orderOf}
 use Rattle.state.specs.Layout.{objectState}
-use Rattle.message.specs.Objects.{object, lets}
+use Rattle.message.specs.Objects.{object, passesFilter}
 use Rattle.message.specs.Queues.{waiting}
 use Rattle.calls.specs.declared.Answer.the-variants.{Done}
 use Rattle.calls.specs.Answers.{Outcome}
@@ -51,7 +51,7 @@ memoryOf t calls m = memoryAfter t (start ∷ calls) m
 pub record Takes (t : List ℕ) (j v : ℕ) (m : List ℕ) : Type 0 where
   pub low : j < counts t .objects
   pub kind : objectRecord t (counts t .ipdus) j .kind ≡ 2
-  pub passes : lets (object t (counts t) j) v (objectState (workingMemory m) j) ≡ true
+  pub passes : passesFilter (object t (counts t) j) v (objectState (workingMemory m) j) ≡ true
 
 -- the value has arrived between two memories: an unqueued object gives it; in a queue that was not full it waits behind the others
 pub record Arrived (t : List ℕ) (j v : ℕ) (before after : List ℕ) : Type 0 where

@@ -1,2 +1,2 @@
-pub mod Kept
-pub mod Ticked
+pub mod RequestsInRange
+pub mod TicksInRange

@@ -30,27 +30,27 @@ mayGo Periodic s = true
 mayGo Mixed s = eqb (s .delay) 0 && eqb (s .requested) 0
 
 -- a wanted request is made if it may go
-unfoldable pub goes : Ipdu → IpduState → Bool
-goes p s = eqb (s .wanted) 1 && mayGo (p .mode) s
+unfoldable pub isDue : Ipdu → IpduState → Bool
+isDue p s = eqb (s .wanted) 1 && mayGo (p .mode) s
 
 -- a request made clears the want, and sets the deadline to D if none was open
-unfoldable pub made : Ipdu → IpduState → IpduState
-made p s = withWanted 0 (withRequest 1 (pick (eqb (s .requested) 0) (p .deadline) (s .deadline)) s)
+unfoldable pub requestMade : Ipdu → IpduState → IpduState
+requestMade p s = withWanted 0 (withRequest 1 (pick (eqb (s .requested) 0) (p .deadline) (s .deadline)) s)
 
-unfoldable pub offered : Ipdu → IpduState → IpduState
-offered p s = pick (goes p s) (made p s) s
+unfoldable pub afterRequest : Ipdu → IpduState → IpduState
+afterRequest p s = pick (isDue p s) (requestMade p s) s
 
 -- slot k of the request area gets I-PDU k's bytes with zeros to 8; other slots stay
-unfoldable pub handed : ℕ → ℕ → List ℕ → List ℕ → List ℕ
-handed length k m area = replaced (8 * k) (part (slotAt k) length m ++ replicate (8 - length) 0) area
+unfoldable pub copiedToArea : ℕ → ℕ → List ℕ → List ℕ → List ℕ
+copiedToArea length k m area = replaced (8 * k) (part (slotAt k) length m ++ replicate (8 - length) 0) area
 
 -- the open request closed, with this delay
-abbrev pub closed : ℕ → IpduState → IpduState
-closed delay s = withDelay delay (withRequest 0 0 s)
+abbrev pub requestClosed : ℕ → IpduState → IpduState
+requestClosed delay s = withDelay delay (withRequest 0 0 s)
 
 -- confirm closes the open request; good sets the delay to M, not good to 0
 unfoldable pub confirmed : Bool → Ipdu → IpduState → IpduState
-confirmed good p s = closed (pick good (p .«minimum_delay») 0) s
+confirmed good p s = requestClosed (pick good (p .«minimum_delay») 0) s
 
 -- ---- the period of the modes 1 and 2
 

@@ -6,11 +6,11 @@ mod ticks;
 
 pub use periods::set_periods;
 pub use requests::confirm;
-pub use requests::offer;
+pub use requests::try_request;
 pub use requests::set_timer;
-pub use ticks::aged;
-pub use ticks::counted_down;
-pub use ticks::delayed;
-pub use ticks::expires;
-pub use ticks::late;
-pub use ticks::watched;
+pub use ticks::tick_deadline;
+pub use ticks::tick_period;
+pub use ticks::tick_delay;
+pub use ticks::deadline_expires;
+pub use ticks::timer_expires;
+pub use ticks::tick_timer;

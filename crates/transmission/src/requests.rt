@@ -10,23 +10,23 @@ ghost use Prim.Native.Nat.{_+_, _*_, _%_, _^_, _≤_, _<_};
 ghost use lib.ListN.{length};
 ghost use Rattle.memory.specs.Search.{pick};
 ghost use Rattle.state.specs.Layout.{memorySize, ipduState, withIpduState};
-ghost use Rattle.transmission.specs.Requests.{mayGo, goes, made, offered, handed, confirmed, timerSet};
+ghost use Rattle.transmission.specs.Requests.{mayGo, isDue, requestMade, afterRequest, copiedToArea, confirmed, timerSet};
 
 // Stores the numbers of an I-PDU after a request was wanted. Where the request may go it is made: the I-PDU's bytes are handed
 // over in its slot of the area, and the answer is the word of the I-PDU; else the word is 0.
-pub fn offer(m: &mut [u8], area: &mut [u8], number: IpduNumber, p: Ipdu, s: IpduState) -> u32
+pub fn try_request(m: &mut [u8], area: &mut [u8], number: IpduNumber, p: Ipdu, s: IpduState) -> u32
     requires { ⌜ number .0 < 32 ⌝ }
     requires { ⌜ (memorySize ≤ length (now m)) × (256 ≤ length (now area)) × (p .length .0 ≤ 8) ⌝ }
-    ensures word { λ r. ⌜ r ≡ pick (goes p s) (2 ^ (number .0)) 0 ⌝ }
-    ensures memory { λ _. ⌜ now (m .exit) ≡ withIpduState (now (m .entry)) (number .0) (offered p s) ⌝ }
-    ensures area { λ _. ⌜ now (area .exit) ≡ pick (goes p s) (handed (p .length .0) (number .0) (now (m .entry)) (now (area .entry))) (now (area .entry)) ⌝ }
+    ensures word { λ r. ⌜ r ≡ pick (isDue p s) (2 ^ (number .0)) 0 ⌝ }
+    ensures memory { λ _. ⌜ now (m .exit) ≡ withIpduState (now (m .entry)) (number .0) (afterRequest p s) ⌝ }
+    ensures area { λ _. ⌜ now (area .exit) ≡ pick (isDue p s) (copiedToArea (p .length .0) (number .0) (now (m .entry)) (now (area .entry))) (now (area .entry)) ⌝ }
 {
-    if !goes(p, s) {
+    if !is_due(p, s) {
         state::set_ipdu_state(m, number, s);
         return 0;
     }
-    hand_over(m, area, number, p.length);
-    state::set_ipdu_state(m, number, made(p, s));
+    copy_to_area(m, area, number, p.length);
+    state::set_ipdu_state(m, number, request_made(p, s));
     bits::power_of_two(number.0) as u32
 }
 
@@ -62,8 +62,8 @@ fn may_go(mode: Mode, s: IpduState) -> bool
 }
 
 // Whether a request is wanted and may go.
-fn goes(p: Ipdu, s: IpduState) -> bool
-    ensures { λ r. ⌜ r ≡ goes p s ⌝ }
+fn is_due(p: Ipdu, s: IpduState) -> bool
+    ensures { λ r. ⌜ r ≡ isDue p s ⌝ }
 {
     let mode = p.mode;
     let free = may_go(mode, s);
@@ -71,8 +71,8 @@ fn goes(p: Ipdu, s: IpduState) -> bool
 }
 
 // The numbers of an I-PDU after a request was made.
-fn made(p: Ipdu, s: IpduState) -> IpduState
-    ensures { λ r. ⌜ r ≡ made p s ⌝ }
+fn request_made(p: Ipdu, s: IpduState) -> IpduState
+    ensures { λ r. ⌜ r ≡ requestMade p s ⌝ }
 {
     let mut next = s;
     next.requested = 1;
@@ -100,9 +100,9 @@ fn confirmed(good: bool, p: Ipdu, s: IpduState) -> IpduState
 }
 
 // Copies an I-PDU's bytes into its slot of the request area, with zeros to 8.
-fn hand_over(m: &[u8], area: &mut [u8], number: IpduNumber, size: ByteLength)
+fn copy_to_area(m: &[u8], area: &mut [u8], number: IpduNumber, size: ByteLength)
     requires { ⌜ (number .0 < 32) × (memorySize ≤ length (now m)) × (256 ≤ length (now area)) × (size .0 ≤ 8) ⌝ }
-    ensures { λ _. ⌜ now (area .exit) ≡ handed (size .0) (number .0) (now (m .entry)) (now (area .entry)) ⌝ }
+    ensures { λ _. ⌜ now (area .exit) ≡ copiedToArea (size .0) (number .0) (now (m .entry)) (now (area .entry)) ⌝ }
 {
     let at = 8 * (number.0 as usize);
     let word = memory::read64(m, SLOTS + at);

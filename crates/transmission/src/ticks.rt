@@ -3,11 +3,11 @@ use state::IpduState;
 use table::Ipdu;
 ghost use mathlib.Core.Path.{_≡_};
 ghost use Prim.Native.Nat.{_-_};
-ghost use Rattle.transmission.specs.Ticks.{delayed, expires, aged, fires, countedDown, late, watched};
+ghost use Rattle.transmission.specs.Ticks.{tickDelay, deadlineExpires, tickDeadline, periodElapses, tickPeriod, timerExpires, tickTimer};
 
 // The numbers of a send I-PDU with its delay a tick shorter.
-pub fn delayed(s: IpduState) -> IpduState
-    ensures { λ r. ⌜ r ≡ delayed s ⌝ }
+pub fn tick_delay(s: IpduState) -> IpduState
+    ensures { λ r. ⌜ r ≡ tickDelay s ⌝ }
 {
     let mut next = s;
     next.delay = fallen(s.delay);
@@ -15,19 +15,19 @@ pub fn delayed(s: IpduState) -> IpduState
 }
 
 // Whether the deadline of an open request runs out in this tick.
-pub fn expires(s: IpduState) -> bool
-    ensures { λ r. ⌜ r ≡ expires s ⌝ }
+pub fn deadline_expires(s: IpduState) -> bool
+    ensures { λ r. ⌜ r ≡ deadlineExpires s ⌝ }
 {
     let left = fallen(s.deadline);
     (s.requested == 1) & (left == 0)
 }
 
 // The numbers of a send I-PDU with its deadline a tick nearer.
-pub fn aged(s: IpduState) -> IpduState
-    ensures { λ r. ⌜ r ≡ aged s ⌝ }
+pub fn tick_deadline(s: IpduState) -> IpduState
+    ensures { λ r. ⌜ r ≡ tickDeadline s ⌝ }
 {
     let mut next = s;
-    if expires(s) {
+    if deadline_expires(s) {
         next.requested = 0;
         next.deadline = 0;
         next.delay = 0;
@@ -41,19 +41,19 @@ pub fn aged(s: IpduState) -> IpduState
 }
 
 // Whether the period's countdown runs out in this tick.
-fn fires(s: IpduState) -> bool
-    ensures { λ r. ⌜ r ≡ fires s ⌝ }
+fn period_elapses(s: IpduState) -> bool
+    ensures { λ r. ⌜ r ≡ periodElapses s ⌝ }
 {
     let left = fallen(s.countdown);
     (s.running == 1) & (left == 0)
 }
 
 // The numbers of a send I-PDU with its period's countdown a tick lower.
-pub fn counted_down(p: Ipdu, s: IpduState) -> IpduState
-    ensures { λ r. ⌜ r ≡ countedDown p s ⌝ }
+pub fn tick_period(p: Ipdu, s: IpduState) -> IpduState
+    ensures { λ r. ⌜ r ≡ tickPeriod p s ⌝ }
 {
     let mut next = s;
-    if fires(s) {
+    if period_elapses(s) {
         next.countdown = p.period;
         next.wanted = 1;
         return next;
@@ -66,18 +66,18 @@ pub fn counted_down(p: Ipdu, s: IpduState) -> IpduState
 }
 
 // Whether the timer of a receive I-PDU runs out in this tick.
-pub fn late(s: IpduState) -> bool
-    ensures { λ r. ⌜ r ≡ late s ⌝ }
+pub fn timer_expires(s: IpduState) -> bool
+    ensures { λ r. ⌜ r ≡ timerExpires s ⌝ }
 {
     s.timer == 1
 }
 
 // The numbers of a receive I-PDU with its timer a tick lower.
-pub fn watched(p: Ipdu, s: IpduState) -> IpduState
-    ensures { λ r. ⌜ r ≡ watched p s ⌝ }
+pub fn tick_timer(p: Ipdu, s: IpduState) -> IpduState
+    ensures { λ r. ⌜ r ≡ tickTimer p s ⌝ }
 {
     let mut next = s;
-    if late(s) {
+    if timer_expires(s) {
         next.timer = p.deadline;
         return next;
     }

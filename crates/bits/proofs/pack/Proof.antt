@@ -8,11 +8,11 @@ use native.Mathlib.Nat.{le-of-eq}
 use borrow.Author.Tests.{not-true}
 use lib.ListN.{length, take, drop, drop-of-length-le}
 use lib.Seq.{take-length, length-take-le}
-use Rattle.memory.proofs.Laws.{part-whole, replaced-whole}
+use Rattle.memory.proofs.Parts.{part-whole, replaced-whole}
 use Rattle.bits.specs.Bits.{packed}
 use Rattle.bits.specs.Frames.{isPlace}
 use Rattle.bits.proofs.Places.{position-twice}
-use Rattle.bits.proofs.Laws.{passed, packed-length, packed-front}
+use Rattle.bits.proofs.RoundTrip.{passed, packed-length, packed-front}
 use borrow.Author.Needs.{needs}
 use native.Mathlib.Omega.{arith}
 use Rattle.bits.proofs.pack.Statement.{statement}

@@ -4,7 +4,7 @@ use mathlib.Core.Path.{ap}
 use mathlib.Core.List.{List}
 use Prim.Native.Nat.{ℕ}
 use Rattle.memory.specs.Bytes.{numberAt, part, replaced}
-use Rattle.memory.proofs.Laws.{part-bytes, part-length}
+use Rattle.memory.proofs.Parts.{part-bytes, part-length}
 use Rattle.bits.proofs.Words.{slot-packed}
 use borrow.Author.Needs.{needs}
 use native.Mathlib.Omega.{arith}

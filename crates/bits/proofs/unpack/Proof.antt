@@ -5,11 +5,11 @@ use mathlib.Core.Path.{_≡_, ap, sym, _∙_}
 use borrow.Author.Tests.{not-true}
 use lib.ListN.{length}
 use lib.Seq.{take-length}
-use Rattle.memory.proofs.Laws.{part-whole}
+use Rattle.memory.proofs.Parts.{part-whole}
 use Rattle.bits.specs.declared.Unpacking.{Unpacking}
 use Rattle.bits.specs.Frames.{isPlace}
 use Rattle.bits.proofs.Places.{position-twice}
-use Rattle.bits.proofs.Laws.{passed, unpacked-front}
+use Rattle.bits.proofs.RoundTrip.{passed, unpacked-front}
 use borrow.Author.Needs.{needs}
 use native.Mathlib.Omega.{arith}
 use Rattle.bits.proofs.unpack.Statement.{statement}

@@ -1,7 +1,7 @@
 -- `bits::unpack_slot` meets its contract: `slot-unpacked`, for the word that the callees make.
 -- Assumes nothing.
 use Rattle.memory.specs.Bytes.{numberAt, part}
-use Rattle.memory.proofs.Laws.{part-bytes, part-length}
+use Rattle.memory.proofs.Parts.{part-bytes, part-length}
 use Rattle.bits.proofs.Words.{slot-unpacked}
 use borrow.Author.Needs.{needs}
 use native.Mathlib.Omega.{arith}

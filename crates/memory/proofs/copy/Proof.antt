@@ -7,7 +7,7 @@ use native.Mathlib.Omega.{arith}
 use borrow.Author.Needs.{needs}
 use lib.ListN.{length, getD, set, take, length-set}
 use lib.Seq.{sets, take-suc, take-length, length-take-le}
-use Rattle.memory.proofs.Laws.{sets-replaced, sets-snoc}
+use Rattle.memory.proofs.Parts.{sets-replaced, sets-snoc}
 use mathlib.Core.Path.{_≡_, refl, sym, ap, _∙_}
 use Rattle.memory.proofs.copy.Statement.{statement}
 use Rattle.memory.proofs.copy.Tie as tie

@@ -1,6 +1,6 @@
 -- `memory::read16` meets its contract.
 -- Assumes nothing.
-use Rattle.memory.proofs.Laws.{number-two}
+use Rattle.memory.proofs.Parts.{number-two}
 use native.Mathlib.Omega.{arith}
 use borrow.Author.Needs.{needs}
 use Rattle.memory.proofs.read16.Statement.{statement}

@@ -1,6 +1,6 @@
 -- `memory::read32` meets its contract.
 -- Assumes nothing.
-use Rattle.memory.proofs.Laws.{number-four}
+use Rattle.memory.proofs.Parts.{number-four}
 use native.Mathlib.Omega.{arith}
 use borrow.Author.Needs.{needs}
 use Rattle.memory.proofs.read32.Statement.{statement}

@@ -1,6 +1,6 @@
 -- `memory::read64` meets its contract.
 -- Assumes nothing.
-use Rattle.memory.proofs.Laws.{number-eight}
+use Rattle.memory.proofs.Parts.{number-eight}
 use native.Mathlib.Omega.{arith}
 use borrow.Author.Needs.{needs}
 use Rattle.memory.proofs.read64.Statement.{statement}

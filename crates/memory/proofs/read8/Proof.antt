@@ -1,6 +1,6 @@
 -- `memory::read8` meets its contract.
 -- Assumes nothing.
-use Rattle.memory.proofs.Laws.{number-one}
+use Rattle.memory.proofs.Parts.{number-one}
 use native.Mathlib.Omega.{arith}
 use borrow.Author.Needs.{needs}
 use Rattle.memory.proofs.read8.Statement.{statement}

@@ -1,7 +1,7 @@
 -- `memory::write16` meets its contract: its stores replace a part.
 -- Assumes nothing.
 use Rattle.memory.specs.Bytes.{bytesOf}
-use Rattle.memory.proofs.Laws.{sets-replaced}
+use Rattle.memory.proofs.Parts.{sets-replaced}
 use native.Mathlib.Numerals.{add-one}
 use lib.ListN.{length-set}
 use native.Mathlib.Omega.{arith}

@@ -1,6 +1,6 @@
 -- `memory::write64` meets its contract: eight stores in a row replace eight bytes.
 -- Assumes nothing.
-use Rattle.memory.proofs.Laws.{sets-replaced}
+use Rattle.memory.proofs.Parts.{sets-replaced}
 use native.Mathlib.Numerals.{add-one}
 use lib.ListN.{length-set}
 use Rattle.memory.specs.Bytes.{bytesOf}

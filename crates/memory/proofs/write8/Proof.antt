@@ -1,7 +1,7 @@
 -- `memory::write8` meets its contract: its stores replace a part.
 -- Assumes nothing.
 use Rattle.memory.specs.Bytes.{bytesOf}
-use Rattle.memory.proofs.Laws.{sets-replaced}
+use Rattle.memory.proofs.Parts.{sets-replaced}
 use native.Mathlib.Omega.{arith}
 use borrow.Author.Needs.{needs}
 use Rattle.memory.proofs.write8.Statement.{statement}

@@ -5,7 +5,7 @@ use Rattle.calls.proofs.objects.initialise.Statement.{statement}
 use native.Mathlib.Omega.{arith}
 use borrow.Author.Tests.{lt-ltb, le-ltb}
 use Rattle.table.proofs.Accepted.{usable}
-use Rattle.message.proofs.Kept.{ready-placed}
+use Rattle.message.proofs.ObjectsInRange.{ready-placed}
 use Rattle.calls.specs.Calls.{initialiseIn}
 use Rattle.calls.proofs.objects.initialise.Tie as tie
 

@@ -8,7 +8,7 @@ use native.Mathlib.Omega.{arith}
 use borrow.Author.Tests.{eq-eqb, ne-eqb, not-true, not-false}
 use Rattle.table.specs.declared.ObjectRecord.{ObjectRecord}
 use Rattle.table.specs.Decode.{objectOf}
-use Rattle.message.proofs.Kept.{ready-held}
+use Rattle.message.proofs.ObjectsInRange.{ready-held}
 use Rattle.calls.specs.Calls.{receiveIn}
 use Rattle.calls.proofs.Records.{object-there}
 

@@ -24,8 +24,8 @@ ipdu-state-requires c κs =
     let low = c .before .before .before .before .before .before .before .before .pre .0 .number (wants-some (c .before .before .before .before .before .before .before .before .args .t .now) (c .before .before .before .before .before .before .before .before .args .o) (sym (c .before .before .before .before .wants .ensures) ∙ not-false _ (c .before .before .before .if1 .left))) in
     omega (arith, low, c .before .before .before .before .before .before .before .before .pre .1 .0)
 
-offer-requires : tie.Need-offer-requires
-offer-requires c κs =
+try-request-requires : tie.Need-try-request-requires
+try-request-requires c κs =
     let some = wants-some (c .before .before .before .before .before .before .before .before .before .before .before .args .t .now) (c .before .before .before .before .before .before .before .before .before .before .before .args .o) (sym (c .before .before .before .before .before .before .before .wants .ensures) ∙ not-false _ (c .before .before .before .before .before .before .if1 .left)) in
     rw (c .before .before .before .before .decode-ipdu .ensures) (c .before .before .before .before .before .before .before .before .before .before .before .pre .0 .number some, (c .before .before .before .before .before .before .before .before .before .before .before .pre .1 .0, c .before .before .before .before .before .before .before .before .before .before .before .pre .1 .1, c .before .before .before .before .before .before .before .before .before .before .before .pre .0 .few some))
 
@@ -37,7 +37,7 @@ same-length-2 c = search needs
 
 returns-2 : tie.Need-returns-2
 unfolding request
-returns-2 c = rw (sym (c .before .before .before .before .before .before .before .before .before .before .before .before .wants .ensures) ∙ not-false _ (c .before .before .before .before .before .before .before .before .before .before .before .if1 .left)) (rw (c .before .before .before .before .offer .ensures .0, c .before .before .before .before .offer .ensures .1 .0, c .before .before .before .before .offer .ensures .1 .1, c .before .before .before .before .before .before .before .before .before .decode-ipdu .ensures, c .before .before .before .before .before .before .before .ipdu-state .ensures))
+returns-2 c = rw (sym (c .before .before .before .before .before .before .before .before .before .before .before .before .wants .ensures) ∙ not-false _ (c .before .before .before .before .before .before .before .before .before .before .before .if1 .left)) (rw (c .before .before .before .before .try-request .ensures .0, c .before .before .before .before .try-request .ensures .1 .0, c .before .before .before .before .try-request .ensures .1 .1, c .before .before .before .before .before .before .before .before .before .decode-ipdu .ensures, c .before .before .before .before .before .before .before .ipdu-state .ensures))
 
 pub request-spec : {M : Type 1} → statement M
 request-spec =
@@ -47,7 +47,7 @@ request-spec =
     returns
     decode-ipdu-requires
     ipdu-state-requires
-    offer-requires
+    try-request-requires
     same-length
     same-length-2
     returns-2)

@@ -8,7 +8,7 @@ use Prim.Native.Nat.{ℕ}
 use native.Mathlib.Omega.{arith}
 use borrow.Author.Tests.{not-true, not-false}
 use Rattle.table.proofs.Accepted.{usable}
-use Rattle.message.proofs.Kept.{ready-period, ready-placed}
+use Rattle.message.proofs.ObjectsInRange.{ready-period, ready-placed}
 use mathlib.Core.List.{List}
 use Rattle.table.specs.declared.Object.{Object}
 use Rattle.calls.specs.Calls.{request, filterSend, sendOf, sendIn}

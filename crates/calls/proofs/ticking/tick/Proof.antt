@@ -8,13 +8,13 @@ use borrow.Author.Needs.{needs}
 use lib.ListN.{length}
 use Rattle.calls.specs.declared.Answer.the-variants.{Done}
 use Rattle.calls.specs.Answers.{Outcome, outcome, valueOf}
-use Rattle.calls.specs.Tick.{Ticked, ticked, joined, tickTurn, ticks, tickIn}
+use Rattle.calls.specs.Tick.{TickResult, tickResult, joined, tickTurn, ticks, tickIn}
 use Rattle.calls.proofs.Ticks.{tick-word, word-more, word-fits}
 use Rattle.calls.proofs.ticking.tick.Statement.{statement}
 use Rattle.calls.proofs.ticking.tick.Tie as tie
 
 abbrev Inv-loop : tie.InvT-loop
-Inv-loop t c m₀ area₀ n word₀ k₀ m area word k = (k ≤ n) × (ticked word m area ≡ ticks t c k area₀ m₀) × (word < 2 ^ k) × (length m ≡ length m₀) × (length area ≡ length area₀)
+Inv-loop t c m₀ area₀ n word₀ k₀ m area word k = (k ≤ n) × (tickResult word m area ≡ ticks t c k area₀ m₀) × (word < 2 ^ k) × (length m ≡ length m₀) × (length area ≡ length area₀)
 
 abbrev μ-loop : tie.MeasureT-loop
 μ-loop t c m₀ area₀ n word₀ k₀ m area word k = n - k
@@ -47,7 +47,7 @@ returns : tie.Need-returns Inv-loop μ-loop
 unfolding tickIn
 returns c =
     let end : c .before .loop .k ≡ c .before .before .before .before .before .args .c .ipdus = omega (arith, c .before .loop .inv .0, c .loop-test .left) in
-    rw end at (ap (λ (a : Ticked). outcome (Done (a .word)) (a .memory) (a .area)) (c .before .loop .inv .1))
+    rw end at (ap (λ (a : TickResult). outcome (Done (a .word)) (a .memory) (a .area)) (c .before .loop .inv .1))
 
 pub tick-spec : {M : Type 1} → statement M
 tick-spec =

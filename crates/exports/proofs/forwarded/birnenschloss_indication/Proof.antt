@@ -1,7 +1,7 @@
 -- `exports::forwarded::birnenschloss_indication` forwards.
 -- Assumes nothing.
 use borrow.Author.Needs.{needs}
-use Rattle.exports.proofs.Laws.{forwards}
+use Rattle.exports.proofs.Forwards.{forwards}
 use Rattle.exports.proofs.forwarded.birnenschloss_indication.Statement.{statement}
 use Rattle.exports.proofs.forwarded.birnenschloss_indication.Tie as tie
 

@@ -13,7 +13,7 @@ use Rattle.table.specs.Records.{objectRecord}
 use Rattle.table.specs.Decode.{objectOf}
 use Rattle.table.proofs.Accepted.{usable}
 use Rattle.state.proofs.Turns.{depth-sum}
-use Rattle.message.proofs.Kept.{right-placed}
+use Rattle.message.proofs.ObjectsInRange.{right-placed}
 use Rattle.layer.specs.Start.{startObject}
 use Rattle.layer.proofs.starting.start_objects.Tie as tie
 

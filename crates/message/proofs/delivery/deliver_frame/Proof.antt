@@ -8,7 +8,7 @@ use borrow.Author.Needs.{needs}
 use lib.ListN.{length}
 use Rattle.memory.specs.Search.{fold}
 use Rattle.message.specs.Delivery.{frameTurn, deliverFrame}
-use Rattle.message.proofs.Kept.{ready-frame}
+use Rattle.message.proofs.ObjectsInRange.{ready-frame}
 use Rattle.message.proofs.delivery.deliver_frame.Statement.{statement}
 use Rattle.message.proofs.delivery.deliver_frame.Tie as tie
 

@@ -8,7 +8,7 @@ use borrow.Author.Needs.{needs}
 use lib.ListN.{length}
 use Rattle.memory.specs.Search.{fold}
 use Rattle.message.specs.Delivery.{insideTurn, deliverInside}
-use Rattle.message.proofs.Kept.{ready-inside}
+use Rattle.message.proofs.ObjectsInRange.{ready-inside}
 use Rattle.message.proofs.delivery.deliver_inside.Statement.{statement}
 use Rattle.message.proofs.delivery.deliver_inside.Tie as tie
 

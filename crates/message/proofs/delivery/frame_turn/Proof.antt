@@ -10,7 +10,7 @@ use borrow.Author.Tests.{lt-ltb, le-ltb, eq-eqb, ne-eqb, not-true, not-false}
 use Rattle.table.specs.declared.ObjectRecord.{ObjectRecord}
 use Rattle.table.specs.Decode.{objectOf}
 use Rattle.table.proofs.Accepted.{usable}
-use Rattle.message.proofs.Kept.{ready-held, ready-period, ready-placed}
+use Rattle.message.proofs.ObjectsInRange.{ready-held, ready-period, ready-placed}
 
 object-record-requires : tie.Need-object-record-requires
 object-record-requires c κs = search needs

@@ -4,7 +4,7 @@ use borrow.Author.Needs.{needs}
 use Rattle.message.proofs.objects.dequeue.Statement.{statement}
 use Rattle.message.proofs.objects.dequeue.Tie as tie
 use native.Mathlib.Omega.{arith}
-use Rattle.message.proofs.Laws.{queue-room}
+use Rattle.message.proofs.RingPlaces.{queue-room}
 use Rattle.message.specs.Objects.{dequeue}
 
 object-state-requires : tie.Need-object-state-requires

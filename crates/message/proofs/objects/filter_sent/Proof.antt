@@ -11,8 +11,8 @@ object-state-requires c κs = search needs
 passes-requires : tie.Need-passes-requires
 passes-requires c κs = search needs
 
-filtered-requires : tie.Need-filtered-requires
-filtered-requires c κs = search needs
+after-filter-requires : tie.Need-after-filter-requires
+after-filter-requires c κs = search needs
 
 set-object-state-requires : tie.Need-set-object-state-requires
 set-object-state-requires c κs = search needs
@@ -21,7 +21,7 @@ same-length : tie.Need-same-length
 same-length c = search needs
 
 returns : tie.Need-returns
-returns c = (rw (c .before .before .before .before .before .passes .ensures, c .before .before .before .before .before .before .object-state .ensures), rw (c .before .before .set-object-state .ensures, c .before .before .before .filtered .ensures, c .before .before .before .before .before .before .object-state .ensures))
+returns c = (rw (c .before .before .before .before .before .passes .ensures, c .before .before .before .before .before .before .object-state .ensures), rw (c .before .before .set-object-state .ensures, c .before .before .before .after-filter .ensures, c .before .before .before .before .before .before .object-state .ensures))
 
 pub filter-sent-spec : {M : Type 1} → statement M
 filter-sent-spec =
@@ -29,7 +29,7 @@ filter-sent-spec =
     (tie.spec
     object-state-requires
     passes-requires
-    filtered-requires
+    after-filter-requires
     set-object-state-requires
     same-length
     returns)

@@ -5,7 +5,7 @@ use Rattle.message.proofs.objects.oldest.Statement.{statement}
 use Rattle.message.proofs.objects.oldest.Tie as tie
 use native.Mathlib.Omega.{arith}
 use Prim.Native.Nat.{zero-le}
-use Rattle.message.proofs.Laws.{queue-room}
+use Rattle.message.proofs.RingPlaces.{queue-room}
 use Rattle.message.specs.Objects.{oldest}
 
 object-state-requires : tie.Need-object-state-requires

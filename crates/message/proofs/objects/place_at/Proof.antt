@@ -3,7 +3,7 @@
 use borrow.Author.Needs.{needs}
 use native.Mathlib.Omega.{arith}
 use Prim.Native.Nat.{_+_}
-use Rattle.message.proofs.Laws.{around-low}
+use Rattle.message.proofs.RingPlaces.{around-low}
 use Rattle.message.proofs.objects.place_at.Statement.{statement}
 use Rattle.message.proofs.objects.place_at.Tie as tie
 

@@ -5,7 +5,7 @@ use mathlib.Core.Path.{sym}
 use Prim.Native.Nat.{_*_}
 use native.Mathlib.Nat.{mod-eq-of-lt}
 use lib.Pow.{pow-pos}
-use Rattle.memory.proofs.Laws.{bytes-bits}
+use Rattle.memory.proofs.Parts.{bytes-bits}
 use Rattle.transmission.proofs.requests.low_bytes.Statement.{statement}
 use Rattle.transmission.proofs.requests.low_bytes.Tie as tie
 

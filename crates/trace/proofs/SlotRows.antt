@@ -1,0 +1,120 @@
+-- What packing and a request leave of working memory, and what a hand-over leaves of the area.
+-- Assumes nothing.
+use mathlib.Core.Bool.{true, false}
+use mathlib.Core.List.{List, _++_}
+use mathlib.Core.Logic.{inl, inr, ⊎-elim}
+use mathlib.Core.Path.{_≡_, sym, ap, _∙_}
+use Prim.Native.Nat.{ℕ, _+_, _-_, _*_, _≤_, _<_}
+use native.Mathlib.Omega.{arith}
+use lib.Dec.{eqb}
+use lib.ListN.{length, take, replicate, length-append, length-replicate}
+use lib.Seq.{take-append-seam}
+use Rattle.memory.specs.Bytes.{value, part, numberAt, replaced}
+use Rattle.memory.proofs.Parts.{part-apart, part-replaced, part-length, part-front, replaced-length}
+use Rattle.memory.proofs.Tests.{true-or-false}
+use Rattle.bits.specs.Bits.{packed}
+use Rattle.table.specs.declared.Object.{Object}
+use Rattle.table.specs.Records.{absent}
+use Rattle.state.specs.Layout.{runningAt, objectRows, slotAt, ipduState, objectRow, objectState}
+use Rattle.state.specs.Updates.{withWanted}
+use Rattle.state.proofs.RowLaws.{ipdu-part, object-read}
+use Rattle.message.specs.Objects.{Placed, startBit, pack}
+use Rattle.message.proofs.ObjectsInRange.{pack-room, packed-slot-length}
+use Rattle.transmission.specs.Requests.{ipdu, afterRequest, copiedToArea}
+use Rattle.calls.specs.Calls.{wants, request}
+use Rattle.calls.proofs.Records.{wants-some}
+
+-- ---- packing
+
+module _ (o : Object) (v : ℕ) (m : List ℕ) (placed : Placed o m) where
+  -- packing changes nothing from the objects' rows on
+  pub pack-behind : (at w : ℕ) → objectRows ≤ at → part at w (pack o v m) ≡ part at w m
+  unfolding pack
+  pack-behind at w high =
+      ⊎-elim
+      (λ (e : eqb (o .ipdu .0) absent ≡ true). rw e)
+      (λ (e : eqb (o .ipdu .0) absent ≡ false).
+      let size = packed-slot-length o v m placed e in
+      rw e
+      (part-apart (slotAt (o .ipdu .0)) (packed (o .order) (startBit o) (o .size .0) v (part (slotAt (o .ipdu .0)) 8 m)) m at w
+      (omega (arith, size, pack-room o v m placed e)) (inr (omega (arith, size, placed .ipdu e, high)))))
+      (true-or-false (eqb (o .ipdu .0) absent))
+
+  -- and so no row of an object
+  pub pack-row : (j : ℕ) → objectState (pack o v m) j ≡ objectState m j
+  pack-row j = object-read (pack o v m) m j (λ p w b. pack-behind (objectRow j + p) w (omega arith))
+
+  -- packing leaves the byte of a stopped layer
+  pub pack-front : runningAt (pack o v m) ≡ runningAt m
+  unfolding pack runningAt numberAt
+  pack-front =
+      ⊎-elim
+      (λ (e : eqb (o .ipdu .0) absent ≡ true). rw e)
+      (λ (e : eqb (o .ipdu .0) absent ≡ false).
+      rw e
+      (ap value
+      (part-apart (slotAt (o .ipdu .0)) (packed (o .order) (startBit o) (o .size .0) v (part (slotAt (o .ipdu .0)) 8 m)) m 0 1
+      (omega (arith, packed-slot-length o v m placed e, pack-room o v m placed e)) (inl (omega arith)))))
+      (true-or-false (eqb (o .ipdu .0) absent))
+
+  -- the slot holds what was packed
+  pub pack-holds : eqb (o .ipdu .0) absent ≡ false
+      → part (slotAt (o .ipdu .0)) 8 (pack o v m) ≡ packed (o .order) (startBit o) (o .size .0) v (part (slotAt (o .ipdu .0)) 8 m)
+  unfolding pack
+  pack-holds e =
+      let size = packed-slot-length o v m placed e in
+      rw e
+      (rw size at
+      (part-replaced (slotAt (o .ipdu .0)) (packed (o .order) (startBit o) (o .size .0) v (part (slotAt (o .ipdu .0)) 8 m)) m
+      (omega (arith, size, pack-room o v m placed e))))
+
+-- ---- requests
+
+-- with or without a request, nothing changes from the objects' rows on
+pub request-behind : (t : List ℕ) (o : Object) (area m : List ℕ) → Placed o m → (at w : ℕ) → objectRows ≤ at
+    → part at w (request t o area m .memory) ≡ part at w m
+unfolding request
+request-behind t o area m placed at w high =
+    ⊎-elim
+    (λ (e : wants t o ≡ true).
+    let low = placed .ipdu (wants-some t o e) in
+    rw e
+    (ipdu-part m (o .ipdu .0) (afterRequest (ipdu t (o .ipdu .0)) (withWanted 1 (ipduState m (o .ipdu .0)))) (omega (arith, low, placed .long)) at w
+    (inr (omega (arith, low, high)))))
+    (λ (e : wants t o ≡ false). rw e)
+    (true-or-false (wants t o))
+
+-- what is handed over: eight bytes of the slot's
+module _ (size k : ℕ) (m area : List ℕ) (few : size ≤ 8) (low : k < 32) (long : 256 ≤ length area) (room : slotAt k + 8 ≤ length m) where
+  held : length (part (slotAt k) size m) ≡ size
+  held = part-length (slotAt k) size m (omega (arith, few, room))
+
+  eight : length (part (slotAt k) size m ++ replicate (8 - size) 0) ≡ 8
+  eight = length-append (part (slotAt k) size m) (replicate (8 - size) 0) ∙ omega (arith, held, few, length-replicate {A = ℕ} (8 - size) 0)
+
+  -- the slot of the area begins with the I-PDU's bytes
+  pub handed-front : part (8 * k) size (copiedToArea size k m area) ≡ part (slotAt k) size m
+  unfolding copiedToArea
+  handed-front =
+      let whole : part (8 * k) 8 (replaced (8 * k) (part (slotAt k) size m ++ replicate (8 - size) 0) area) ≡ part (slotAt k) size m ++ replicate (8 - size) 0 =
+      rw eight at (part-replaced (8 * k) (part (slotAt k) size m ++ replicate (8 - size) 0) area (omega (arith, eight, low, long))) in
+      sym (part-front (8 * k) size 8 (replaced (8 * k) (part (slotAt k) size m ++ replicate (8 - size) 0) area) few)
+      ∙ ap (take size) whole
+      ∙ rw held at (take-append-seam (part (slotAt k) size m) (replicate (8 - size) 0))
+
+  pub handed-length : length (copiedToArea size k m area) ≡ length area
+  unfolding copiedToArea
+  handed-length = replaced-length (8 * k) (part (slotAt k) size m ++ replicate (8 - size) 0) area (omega (arith, eight, low, long))
+
+  -- other slots stay
+  pub handed-other : (j n : ℕ) → j < k → n ≤ 8 → part (8 * j) n (copiedToArea size k m area) ≡ part (8 * j) n area
+  unfolding copiedToArea
+  handed-other j n below most =
+      part-apart (8 * k) (part (slotAt k) size m ++ replicate (8 - size) 0) area (8 * j) n (omega (arith, eight, low, long)) (inl (omega (arith, below, most)))
+
+-- what is handed over depends on the slot alone
+pub handed-same : (size k : ℕ) (l m area : List ℕ) → size ≤ 8 → part (slotAt k) 8 l ≡ part (slotAt k) 8 m → copiedToArea size k l area ≡ copiedToArea size k m area
+unfolding copiedToArea
+handed-same size k l m area few e =
+    ap (λ (f : List ℕ). replaced (8 * k) (f ++ replicate (8 - size) 0) area)
+    (sym (part-front (slotAt k) size 8 l few) ∙ ap (take size) e ∙ part-front (slotAt k) size 8 m few)
