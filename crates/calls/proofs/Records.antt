@@ -13,7 +13,7 @@ use Rattle.table.specs.declared.Counts.{Counts}
 use Rattle.table.specs.declared.Direction.{Direction}
 use Rattle.table.specs.declared.Direction.the-variants.{Send, Receive}
 use Rattle.table.specs.declared.Object.{Object}
-use Rattle.table.specs.Records.{absent, ipduRecord, objectRecord}
+use Rattle.table.specs.Records.{receiving, sending, absent, ipduRecord, objectRecord}
 use Rattle.table.specs.Decode.{ipduOf, objectOf, Right}
 use Rattle.table.proofs.Accepted.{Usable, usable}
 use Rattle.table.proofs.Facts.{IpduFacts, ipdu-facts}
@@ -42,27 +42,27 @@ ipdu-direction t c direction k e =
 
 -- directions as the table's numbers
 module _ (t : List ℕ) where
-  pub ipdu-sends : (k : ℕ) → ipduRecord t k .direction ≡ 1 → ipdu t k .direction ≡ Send
+  pub ipdu-sends : (k : ℕ) → ipduRecord t k .direction ≡ sending → ipdu t k .direction ≡ Send
   unfolding ipduOf
   ipdu-sends k e = rw e
 
-  pub ipdu-receives : (k : ℕ) → ipduRecord t k .direction ≡ 2 → ipdu t k .direction ≡ Receive
+  pub ipdu-receives : (k : ℕ) → ipduRecord t k .direction ≡ receiving → ipdu t k .direction ≡ Receive
   unfolding ipduOf
   ipdu-receives k e = rw e
 
-  pub sends-one : (k : ℕ) → ipdu t k .direction ≡ Send → ipduRecord t k .direction ≡ 1
+  pub sends-one : (k : ℕ) → ipdu t k .direction ≡ Send → ipduRecord t k .direction ≡ sending
   unfolding ipduOf
   sends-one k e =
       ⊎-elim
-      (λ (y : eqb (ipduRecord t k .direction) 1 ≡ true). eqb-true (ipduRecord t k .direction) 1 y)
-      (λ (n : eqb (ipduRecord t k .direction) 1 ≡ false). absurd (receive-not-send (rw n at e)))
-      (true-or-false (eqb (ipduRecord t k .direction) 1))
+      (λ (y : eqb (ipduRecord t k .direction) sending ≡ true). eqb-true (ipduRecord t k .direction) sending y)
+      (λ (n : eqb (ipduRecord t k .direction) sending ≡ false). absurd (receive-not-send (rw n at e)))
+      (true-or-false (eqb (ipduRecord t k .direction) sending))
 
-  pub object-sends : (c : Counts) (i : ℕ) → eqb (objectRecord t (c .ipdus) i .kind) 1 ≡ true → object t c i .direction ≡ Send
+  pub object-sends : (c : Counts) (i : ℕ) → eqb (objectRecord t (c .ipdus) i .kind) sending ≡ true → object t c i .direction ≡ Send
   unfolding objectOf
   object-sends c i e = rw e
 
-  pub object-receives : (c : Counts) (i : ℕ) → eqb (objectRecord t (c .ipdus) i .kind) 1 ≡ false → object t c i .direction ≡ Receive
+  pub object-receives : (c : Counts) (i : ℕ) → eqb (objectRecord t (c .ipdus) i .kind) sending ≡ false → object t c i .direction ≡ Receive
   unfolding objectOf
   object-receives c i e = rw e
 

@@ -15,7 +15,7 @@ use Rattle.table.specs.declared.Mode.the-variants.{Direct, Periodic, Mixed}
 use Rattle.table.specs.declared.Object.{Object}
 use Rattle.table.specs.declared.Transfer.{Transfer}
 use Rattle.table.specs.declared.Transfer.the-variants.{Triggered, Pending}
-use Rattle.table.specs.Records.{absent, ipduRecord, objectRecord}
+use Rattle.table.specs.Records.{mostIpdus, receiving, sending, absent, ipduRecord, objectRecord}
 use Rattle.state.specs.declared.IpduState.{IpduState}
 use Rattle.state.specs.declared.ObjectState.{ObjectState}
 use Rattle.state.specs.Layout.{withRunning, slotAt, ipduState, withIpduState, objectState, withObjectState}
@@ -29,7 +29,7 @@ use Rattle.calls.specs.Answers.{Outcome, outcome}
 
 -- the I-PDU of an object, where it has one, is in the table
 pub record HasIpdu (t : List ℕ) (o : Object) : Type 0 where
-  pub number : eqb (o .ipdu .0) absent ≡ false → o .ipdu .0 < 32
+  pub number : eqb (o .ipdu .0) absent ≡ false → o .ipdu .0 < mostIpdus
   pub inside : eqb (o .ipdu .0) absent ≡ false → 16 + 16 * (o .ipdu .0) + 16 ≤ length t
   pub few : eqb (o .ipdu .0) absent ≡ false → ipdu t (o .ipdu .0) .length .0 ≤ 8
 
@@ -82,7 +82,7 @@ unfoldable pub sendOf : List ℕ → Counts → ℕ → ℕ → List ℕ → Lis
 sendOf t c i v area m = filterSend t (object t c i) i v area (deliverInside t c i v m)
 
 unfoldable pub sendIn : List ℕ → Counts → ℕ → ℕ → List ℕ → List ℕ → Outcome
-sendIn t c i v area m = pick (isObject t c 1 i) (sendOf t c i v area m) (outcome WrongId m area)
+sendIn t c i v area m = pick (isObject t c sending i) (sendOf t c i v area m) (outcome WrongId m area)
 
 -- ---- initialise
 
@@ -104,7 +104,7 @@ abbrev pub receiveOf : ℕ → ℕ → List ℕ → Outcome
 receiveOf depth i m = pick (eqb depth 0) (outcome (Done (objectState m i .value)) m []) (receiveQueued depth i m)
 
 unfoldable pub receiveIn : List ℕ → Counts → ℕ → List ℕ → Outcome
-receiveIn t c i m = pick (isObject t c 2 i) (receiveOf (objectRecord t (c .ipdus) i .depth) i m) (outcome WrongId m [])
+receiveIn t c i m = pick (isObject t c receiving i) (receiveOf (objectRecord t (c .ipdus) i .depth) i m) (outcome WrongId m [])
 
 -- ---- status, of queued objects only, changes nothing
 
@@ -113,7 +113,7 @@ statusOf s = pick (eqb (s .count) 0) NoMessage (limited s 0)
 
 unfoldable pub statusIn : List ℕ → Counts → ℕ → List ℕ → Outcome
 statusIn t c i m =
-    pick (isObject t c 2 i && not (eqb (objectRecord t (c .ipdus) i .depth) 0)) (outcome (statusOf (objectState m i)) m [])
+    pick (isObject t c receiving i && not (eqb (objectRecord t (c .ipdus) i .depth) 0)) (outcome (statusOf (objectState m i)) m [])
     (outcome WrongId m [])
 
 -- ---- marks reads, clear marks clears, the four marks of an object
@@ -143,7 +143,7 @@ indicationOf true t c k bytes m =
 indicationOf false t c k bytes m = outcome (Done 0) (markObjects t c k markReceiveError m) []
 
 unfoldable pub indicationIn : List ℕ → Counts → ℕ → Bool → List ℕ → List ℕ → Outcome
-indicationIn t c k good bytes m = pick (isIpdu t c 2 k) (indicationOf good t c k bytes m) (outcome WrongId m [])
+indicationIn t c k good bytes m = pick (isIpdu t c receiving k) (indicationOf good t c k bytes m) (outcome WrongId m [])
 
 -- ---- confirm closes the open request, and marks sent or send error on its objects
 
@@ -153,6 +153,6 @@ confirmOf good t c k m =
 
 unfoldable pub confirmIn : List ℕ → Counts → ℕ → Bool → List ℕ → Outcome
 confirmIn t c k good m =
-    pick (isIpdu t c 1 k)
+    pick (isIpdu t c sending k)
     (pick (eqb (ipduState m k .requested) 0) (outcome NotRequested m []) (outcome (Done 0) (confirmOf good t c k m) []))
     (outcome WrongId m [])

@@ -1,12 +1,12 @@
 // Indication and confirm.
 use super::Answer;
-use super::RECEIVED;
-use super::SENT;
 use message::RECEIVE_ERROR;
 use message::SEND_ERROR;
 use state::SLOTS;
 use table::Counts;
 use table::IpduNumber;
+use table::RECEIVING;
+use table::SENDING;
 ghost use mathlib.Core.Bool.{true, false};
 ghost use mathlib.Core.List.{[]};
 ghost use mathlib.Core.Path.{_≡_};
@@ -29,7 +29,7 @@ pub fn indication(
     requires { ⌜ Ready (now t) c (now m) ⌝ }
     ensures { λ r. ⌜ outcome r (now (m .exit)) [] ≡ indicationIn (now (t .entry)) c (number .0) good (now (bytes .entry)) (now (m .entry)) ⌝ }
 {
-    if !super::numbers::is_ipdu(t, c, RECEIVED, number) {
+    if !super::numbers::is_ipdu(t, c, RECEIVING, number) {
         return Answer::WrongId;
     }
     if !good {
@@ -61,7 +61,7 @@ pub fn confirm(t: &[u8], c: Counts, m: &mut [u8], number: IpduNumber, good: bool
     requires { ⌜ Ready (now t) c (now m) ⌝ }
     ensures { λ r. ⌜ outcome r (now (m .exit)) [] ≡ confirmIn (now (t .entry)) c (number .0) good (now (m .entry)) ⌝ }
 {
-    if !super::numbers::is_ipdu(t, c, SENT, number) {
+    if !super::numbers::is_ipdu(t, c, SENDING, number) {
         return Answer::WrongId;
     }
     let s = state::ipdu_state(m, number);

@@ -34,8 +34,3 @@ pub enum Answer {
     Stopped,
     NotRequested,
 }
-
-// The kind of a send object and the direction of a send I-PDU in the table, and of a receive one.
-const SENT: u32 = 1;
-
-const RECEIVED: u32 = 2;

@@ -1,9 +1,9 @@
 // Receive, status, marks, clear marks and initialise.
 use super::Answer;
-use super::RECEIVED;
 use state::ObjectState;
 use table::Counts;
 use table::ObjectNumber;
+use table::RECEIVING;
 ghost use mathlib.Core.List.{[]};
 ghost use mathlib.Core.Path.{_≡_};
 ghost use Prim.Native.Nat.{_+_, _≤_, _<_};
@@ -19,7 +19,7 @@ pub fn receive(t: &[u8], c: Counts, m: &mut [u8], number: ObjectNumber) -> Answe
     requires { ⌜ Ready (now t) c (now m) ⌝ }
     ensures { λ r. ⌜ outcome r (now (m .exit)) [] ≡ receiveIn (now (t .entry)) c (number .0) (now (m .entry)) ⌝ }
 {
-    if !super::numbers::is_object(t, c, RECEIVED, number) {
+    if !super::numbers::is_object(t, c, RECEIVING, number) {
         return Answer::WrongId;
     }
     let r = table::object_record(t, c.ipdus, number);
@@ -60,7 +60,7 @@ pub fn status(t: &[u8], c: Counts, m: &[u8], number: ObjectNumber) -> Answer
     requires { ⌜ Ready (now t) c (now m) ⌝ }
     ensures { λ r. ⌜ outcome r (now (m .entry)) [] ≡ statusIn (now (t .entry)) c (number .0) (now (m .entry)) ⌝ }
 {
-    if !super::numbers::is_object(t, c, RECEIVED, number) {
+    if !super::numbers::is_object(t, c, RECEIVING, number) {
         return Answer::WrongId;
     }
     let r = table::object_record(t, c.ipdus, number);

@@ -1,12 +1,12 @@
 // Send.
 use super::Answer;
-use super::SENT;
 use table::Counts;
 use table::IpduNumber;
 use table::Mode;
 use table::NONE;
 use table::Object;
 use table::ObjectNumber;
+use table::SENDING;
 use table::Transfer;
 ghost use mathlib.Core.Path.{_≡_};
 ghost use Prim.Native.Nat.{_≤_};
@@ -29,7 +29,7 @@ pub fn send(
     requires { ⌜ areaSize ≤ length (now area) ⌝ }
     ensures { λ r. ⌜ outcome r (now (m .exit)) (now (area .exit)) ≡ sendIn (now (t .entry)) c (number .0) v (now (area .entry)) (now (m .entry)) ⌝ }
 {
-    if !super::numbers::is_object(t, c, SENT, number) {
+    if !super::numbers::is_object(t, c, SENDING, number) {
         return Answer::WrongId;
     }
     let o = table::decode_object(t, c.ipdus, number);

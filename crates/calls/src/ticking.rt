@@ -10,6 +10,7 @@ ghost use mathlib.Core.List.{[]};
 ghost use mathlib.Core.Path.{_≡_};
 ghost use Prim.Native.Nat.{_≤_, _<_};
 ghost use lib.ListN.{length};
+ghost use Rattle.table.specs.Records.{mostIpdus};
 ghost use Rattle.memory.specs.Search.{pick};
 ghost use Rattle.table.specs.Check.{Shape};
 ghost use Rattle.table.specs.Decode.{Right};
@@ -57,11 +58,18 @@ fn tick_ipdu(t: &[u8], c: Counts, m: &mut [u8], area: &mut [u8], number: IpduNum
 // Delay, deadline, period and request of a send I-PDU.
 fn tick_send(t: &[u8], c: Counts, m: &mut [u8], area: &mut [u8], number: IpduNumber, p: Ipdu) -> u32
     requires { ⌜ Shape (now t) c ⌝ }
-    requires { ⌜ (number .0 < 32) × (memorySize ≤ length (now m)) × (areaSize ≤ length (now area)) × (p .length .0 ≤ 8) × (p ≡ ipdu (now t) (number .0)) ⌝ }
+    requires { ⌜ (number .0 < mostIpdus) × (memorySize ≤ length (now m)) × (areaSize ≤ length (now area)) × (p .length .0 ≤ 8) × (p ≡ ipdu (now t) (number .0)) ⌝ }
     ensures { λ r. ⌜ outcome (Done r) (now (m .exit)) (now (area .exit)) ≡ sendTick (now (t .entry)) c (number .0) (tickDelay (ipduState (now (m .entry)) (number .0))) (now (area .entry)) (now (m .entry)) ⌝ }
 {
     let s = transmission::tick_delay(state::ipdu_state(m, number));
-    mark_where(t, c, m, number, SEND_ERROR, transmission::deadline_expires(s));
+    mark_where(
+        t,
+        c,
+        m,
+        number,
+        SEND_ERROR,
+        transmission::deadline_expires(s),
+    );
     let next = transmission::tick_period(p, transmission::tick_deadline(s));
     transmission::try_request(m, area, number, p, next)
 }
@@ -69,11 +77,18 @@ fn tick_send(t: &[u8], c: Counts, m: &mut [u8], area: &mut [u8], number: IpduNum
 // The timer of a receive I-PDU.
 fn tick_receive(t: &[u8], c: Counts, m: &mut [u8], number: IpduNumber, p: Ipdu)
     requires { ⌜ Shape (now t) c ⌝ }
-    requires { ⌜ (number .0 < 32) × (memorySize ≤ length (now m)) × (p ≡ ipdu (now t) (number .0)) ⌝ }
+    requires { ⌜ (number .0 < mostIpdus) × (memorySize ≤ length (now m)) × (p ≡ ipdu (now t) (number .0)) ⌝ }
     ensures { λ _. ⌜ now (m .exit) ≡ receiveTick (now (t .entry)) c (number .0) (ipduState (now (m .entry)) (number .0)) [] (now (m .entry)) .memory ⌝ }
 {
     let s = state::ipdu_state(m, number);
-    mark_where(t, c, m, number, RECEIVE_ERROR, transmission::timer_expires(s));
+    mark_where(
+        t,
+        c,
+        m,
+        number,
+        RECEIVE_ERROR,
+        transmission::timer_expires(s),
+    );
     state::set_ipdu_state(m, number, transmission::tick_timer(p, s));
 }
 

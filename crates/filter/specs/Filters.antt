@@ -2,7 +2,7 @@
 -- Assumes nothing.
 use mathlib.Core.Bool.{Bool, true, false, not, _&&_}
 use mathlib.Core.List.{List, [], _∷_}
-use Prim.Native.Nat.{ℕ, _%_, _<_}
+use Prim.Native.Nat.{ℕ, _+_, _%_, _<_}
 use lib.Bits.{bitAnd}
 use lib.Dec.{leb, ltb, eqb}
 use lib.ListN.{getD}
@@ -26,6 +26,10 @@ passes NewIsLessOrEqual new old n = leb new old
 passes NewIsLess new old n = ltb new old
 passes NewIsGreaterOrEqual new old n = leb old new
 passes (OneEveryN period offset) new old n = eqb (n % period) offset
+
+-- the occurrence rises after each filtering, passed or not; from 255 it goes to 0
+abbrev pub nextOccurrence : ℕ → ℕ
+nextOccurrence n = (n + 1) % 256
 
 -- a period is at least 1
 abbrev pub HasPeriod : Filter → Type 0

@@ -1,7 +1,7 @@
 // Filters of message objects (document 01, "Filters"; document 001, table 1), under OSEK COM's names.
 ghost use mathlib.Core.Path.{_≡_};
 ghost use Prim.Native.Nat.{_+_, _%_};
-ghost use Rattle.filter.specs.Filters.{HasPeriod, passes, filterOf, constants, filterRight};
+ghost use Rattle.filter.specs.Filters.{nextOccurrence, HasPeriod, passes, filterOf, constants, filterRight};
 
 // A filter with the constants that it needs.
 pub enum Filter {
@@ -123,7 +123,7 @@ pub fn passes(filter: Filter, new: u32, old: u32, occurrence: u8) -> bool
 
 // The occurrence after one more filtering, passed or not: from 255 it goes to 0.
 pub fn next_occurrence(occurrence: u8) -> u8
-    ensures { λ r. ⌜ r ≡ (occurrence + 1) % 256 ⌝ }
+    ensures { λ r. ⌜ r ≡ nextOccurrence occurrence ⌝ }
 {
     std::num::wrapping_add_u8(occurrence, 1)
 }

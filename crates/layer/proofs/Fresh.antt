@@ -14,7 +14,7 @@ use Rattle.table.specs.declared.Direction.the-variants.{Send, Receive}
 use Rattle.table.specs.declared.Object.{Object}
 use Rattle.table.specs.Decode.{Right}
 use Rattle.table.specs.Check.{depths}
-use Rattle.state.specs.Layout.{memorySize, withRunning, objectRow, withObjectState}
+use Rattle.state.specs.Layout.{rowSize, memorySize, withRunning, objectRow, withObjectState}
 use Rattle.state.proofs.RowLaws.{ipdu-length, object-length}
 use Rattle.state.proofs.Running.{running-length}
 use Rattle.message.specs.Objects.{object, Placed}
@@ -29,7 +29,7 @@ pub all-written : (t : List ℕ) (c : Counts) {size : ℕ} {zeros ipdus objects 
 unfolding started prepared blank withRunning
 all-written t c size zeros ipdus objects running = rw (running, objects, ipdus, zeros, size)
 
-module _ (o : Object) (i first : ℕ) (m : List ℕ) (placed : Placed o m) (room : objectRow i + 16 ≤ length m) where
+module _ (o : Object) (i first : ℕ) (m : List ℕ) (placed : Placed o m) (room : objectRow i + rowSize ≤ length m) where
   start-as-length : (d : Direction) → length (startAs d o i first m) ≡ length m
   start-as-length Send =
       let same = object-length m i (unused 0 (o .initial) first) room in

@@ -20,7 +20,7 @@ ghost use Rattle.memory.specs.Search.{pick, fold};
 ghost use Rattle.table.specs.declared.Verdict.the-variants.{Accepted};
 ghost use Rattle.table.specs.Check.{Shape, depths};
 ghost use Rattle.table.specs.Decode.{Right};
-ghost use Rattle.state.specs.Layout.{memorySize, objectRow};
+ghost use Rattle.state.specs.Layout.{rowSize, queues, memorySize, objectRow};
 ghost use Rattle.message.specs.Objects.{Placed};
 ghost use Rattle.calls.specs.Answers.{outcome};
 ghost use Rattle.layer.specs.Start.{idle, firstTimer, startIpdu, unused, startAs, startObject, started, startIn};
@@ -99,7 +99,7 @@ fn start_objects(t: &[u8], c: Counts, m: &mut [u8])
 // Packs or stores the initial value of an object, whose queue begins at place `first` of all queues.
 fn start_object(m: &mut [u8], number: ObjectNumber, o: Object, first: u32)
     requires { ⌜ Placed o (now m) ⌝ }
-    requires { ⌜ objectRow (number .0) + 16 ≤ length (now m) ⌝ }
+    requires { ⌜ objectRow (number .0) + rowSize ≤ length (now m) ⌝ }
     ensures { λ _. ⌜ now (m .exit) ≡ startAs (o .direction) o (number .0) first (now (m .entry)) ⌝ }
 {
     let direction = o.direction;

@@ -17,11 +17,11 @@ use Rattle.memory.proofs.Tests.{lt-or-le}
 use Rattle.bits.specs.Bits.{unpacked}
 use Rattle.table.specs.declared.Counts.{Counts}
 use Rattle.table.specs.declared.Object.{Object}
-use Rattle.table.specs.Records.{objectRecord}
+use Rattle.table.specs.Records.{mostObjects, mostIpdus, objectRecord}
 use Rattle.table.specs.Check.{depths}
 use Rattle.table.specs.Decode.{objectOf}
 use Rattle.state.specs.declared.ObjectState.{ObjectState}
-use Rattle.state.specs.Layout.{slotAt, objectRow, objectState, withObjectState}
+use Rattle.state.specs.Layout.{rowSize, queues, slotAt, objectRow, objectState, withObjectState}
 use Rattle.state.specs.Ranges.{Ready}
 use Rattle.state.proofs.RowLaws.{ObjectFits, object-part, object-stored, object-read}
 use Rattle.state.proofs.Ready.{ObjectKept, kept-fits, object-row, ready-kept}
@@ -31,8 +31,8 @@ use Rattle.message.proofs.RingPlaces.{queue-room}
 use Rattle.message.proofs.ObjectsInRange.{ready-held, kept-delivered, ready-deliver, unpack-lt}
 
 -- a part of row j lies before row i or after it, and before the queues
-other-row : (i j o w : ℕ) → (j ≡ i → ⊥) → j < 128 → o + w ≤ 16
-    → (objectRow j + o + w ≤ objectRow i) ⊎ ((objectRow i + 16 ≤ objectRow j + o) × (objectRow j + o + w ≤ 2832))
+other-row : (i j o w : ℕ) → (j ≡ i → ⊥) → j < mostObjects → o + w ≤ 16
+    → (objectRow j + o + w ≤ objectRow i) ⊎ ((objectRow i + rowSize ≤ objectRow j + o) × (objectRow j + o + w ≤ queues))
 other-row i j o w ne low h =
     ⊎-elim
     (λ (b : j < i). inl (omega (arith, h, b)))
@@ -49,7 +49,7 @@ module _ (t : List ℕ) (c : Counts) (m : List ℕ) (ready : Ready t c m) (i : �
       omega (arith, room, bytesOf-length 4 v)
 
   -- the queue's place written, or not
-  queue-part : (b : Bool) (j w : ℕ) → j + w ≤ 2832
+  queue-part : (b : Bool) (j w : ℕ) → j + w ≤ queues
       → part j w (pick b (replaced (placeAt (object t c i .depth) (objectState m i) (objectState m i .count)) (bytesOf 4 v) m) m) ≡ part j w m
   queue-part true j w low =
       part-apart (placeAt (object t c i .depth) (objectState m i) (objectState m i .count)) (bytesOf 4 v) m j w there (inl (omega (arith, low)))
@@ -61,7 +61,7 @@ module _ (t : List ℕ) (c : Counts) (m : List ℕ) (ready : Ready t c m) (i : �
   queue-length false = refl
 
   -- apart from the row and the queues
-  pub deliver-part : (j w : ℕ) → (j + w ≤ objectRow i) ⊎ ((objectRow i + 16 ≤ j) × (j + w ≤ 2832))
+  pub deliver-part : (j w : ℕ) → (j + w ≤ objectRow i) ⊎ ((objectRow i + rowSize ≤ j) × (j + w ≤ queues))
       → part j w (deliver (object t c i) i v m) ≡ part j w m
   unfolding deliver
   deliver-part j w side =
@@ -74,17 +74,17 @@ module _ (t : List ℕ) (c : Counts) (m : List ℕ) (ready : Ready t c m) (i : �
       (omega (arith, room, queue-length (enters (passesFilter (object t c i) v (objectState m i)) (object t c i .depth) (objectState m i)))) j w
       (⊎-elim
       (λ (b : j + w ≤ objectRow i). inl b)
-      (λ (b : (objectRow i + 16 ≤ j) × (j + w ≤ 2832)). inr (b .0)) side)
+      (λ (b : (objectRow i + rowSize ≤ j) × (j + w ≤ queues)). inr (b .0)) side)
       ∙ queue-part (enters (passesFilter (object t c i) v (objectState m i)) (object t c i .depth) (objectState m i)) j w
       (⊎-elim
       (λ (b : j + w ≤ objectRow i). omega (arith, b, h, few))
-      (λ (b : (objectRow i + 16 ≤ j) × (j + w ≤ 2832)). b .1) side)
+      (λ (b : (objectRow i + rowSize ≤ j) × (j + w ≤ queues)). b .1) side)
 
-  pub deliver-other : (j : ℕ) → j < 128 → (j ≡ i → ⊥) → objectState (deliver (object t c i) i v m) j ≡ objectState m j
+  pub deliver-other : (j : ℕ) → j < mostObjects → (j ≡ i → ⊥) → objectState (deliver (object t c i) i v m) j ≡ objectState m j
   deliver-other j low ne =
       object-read (deliver (object t c i) i v m) m j (λ o w b. deliver-part (objectRow j + o) w (other-row i j o w ne low b))
 
-  pub deliver-slot : (k : ℕ) → k < 32 → part (slotAt k) 8 (deliver (object t c i) i v m) ≡ part (slotAt k) 8 m
+  pub deliver-slot : (k : ℕ) → k < mostIpdus → part (slotAt k) 8 (deliver (object t c i) i v m) ≡ part (slotAt k) 8 m
   deliver-slot k low = deliver-part (slotAt k) 8 (inl (omega (arith, low)))
 
   -- its own row
@@ -122,7 +122,7 @@ module _ (t : List ℕ) (c : Counts) (m : List ℕ) (ready : Ready t c m) (test 
       → view (deliver (object t c i) i (value i l) l) ≡ view l → view (deliverTurn t c test value i l) ≡ view l
   turn-keeps view i l e = picked (λ (x : List ℕ). view x ≡ view l) (test i) (deliver (object t c i) i (value i l) l) l (λ y. e) (λ n. refl)
 
-  pub turns-slot : (n : ℕ) → n ≤ c .objects → (k : ℕ) → k < 32
+  pub turns-slot : (n : ℕ) → n ≤ c .objects → (k : ℕ) → k < mostIpdus
       → part (slotAt k) 8 (fold n (deliverTurn t c test value) m) ≡ part (slotAt k) 8 m
   turns-slot n h k low =
       fold-view (part (slotAt k) 8) n (deliverTurn t c test value) m
@@ -176,7 +176,7 @@ inside-row t c m ready sender v j small low e =
     (eq-eqb (objectRecord t (c .ipdus) j .sender) sender e) v refl
 
 -- an object of an I-PDU gets its bits of it
-pub frame-row : (t : List ℕ) (c : Counts) (m : List ℕ) → Ready t c m → (k j : ℕ) → k < 32 → j < c .objects
+pub frame-row : (t : List ℕ) (c : Counts) (m : List ℕ) → Ready t c m → (k j : ℕ) → k < mostIpdus → j < c .objects
     → objectRecord t (c .ipdus) j .ipdu ≡ k
     → objectState (deliverFrame t c k m) j
     ≡ delivered (passesFilter (object t c j) (unpack (object t c j) m) (objectState m j)) (object t c j .depth) (unpack (object t c j) m) (objectState m j)

@@ -14,7 +14,7 @@ use Rattle.memory.proofs.Tests.{lt-or-le, true-or-false}
 use Rattle.bits.specs.Bits.{unpacked}
 use Rattle.table.specs.declared.Counts.{Counts}
 use Rattle.table.specs.declared.Object.{Object}
-use Rattle.table.specs.Records.{objectRecord}
+use Rattle.table.specs.Records.{mostIpdus, objectRecord}
 use Rattle.table.specs.Check.{depths}
 use Rattle.table.specs.Decode.{objectOf}
 use Rattle.state.specs.Layout.{queues, objectState}
@@ -127,7 +127,7 @@ module _ (t : List ℕ) (c : Counts) (m : List ℕ) (ready : Ready t c m) where
   inside-waiting-other sender v j small low ne = inside-turn sender v j small low ∙ rw (ne-eqb (objectRecord t (c .ipdus) j .sender) sender ne)
 
   -- a received I-PDU, for any object
-  frame-turn : (k j : ℕ) → k < 32 → j < c .objects
+  frame-turn : (k j : ℕ) → k < mostIpdus → j < c .objects
       → waiting (object t c j .depth) j (deliverFrame t c k m) ≡ waiting (object t c j .depth) j (frameTurn t c k j m)
   unfolding deliverFrame unpack objectOf
   frame-turn k j few low =
@@ -138,12 +138,12 @@ module _ (t : List ℕ) (c : Counts) (m : List ℕ) (ready : Ready t c m) where
       (deliver-slot t c l r i b (unpack (object t c i) l) (objectRecord t (c .ipdus) j .ipdu) (omega (arith, own, few))))
 
   -- an object of the I-PDU has what the one delivery of its bits leaves
-  pub frame-waiting : (k j : ℕ) → k < 32 → j < c .objects → objectRecord t (c .ipdus) j .ipdu ≡ k
+  pub frame-waiting : (k j : ℕ) → k < mostIpdus → j < c .objects → objectRecord t (c .ipdus) j .ipdu ≡ k
       → waiting (object t c j .depth) j (deliverFrame t c k m)
       ≡ waiting (object t c j .depth) j (deliver (object t c j) j (unpack (object t c j) m) m)
   frame-waiting k j few low e = frame-turn k j few low ∙ rw (eq-eqb (objectRecord t (c .ipdus) j .ipdu) k e)
 
   -- any other object has what it had
-  pub frame-waiting-other : (k j : ℕ) → k < 32 → j < c .objects → (objectRecord t (c .ipdus) j .ipdu ≡ k → ⊥)
+  pub frame-waiting-other : (k j : ℕ) → k < mostIpdus → j < c .objects → (objectRecord t (c .ipdus) j .ipdu ≡ k → ⊥)
       → waiting (object t c j .depth) j (deliverFrame t c k m) ≡ waiting (object t c j .depth) j m
   frame-waiting-other k j few low ne = frame-turn k j few low ∙ rw (ne-eqb (objectRecord t (c .ipdus) j .ipdu) k ne)

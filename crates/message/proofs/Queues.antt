@@ -12,6 +12,7 @@ use borrow.Author.Tests.{ltb-true, lt-ltb, le-ltb, eqb-true}
 use lib.Dec.{ltb, eqb}
 use lib.ListN.{length, length-append, take, drop}
 use lib.Seq.{take-take, drop-drop}
+use Rattle.table.specs.Records.{mostObjects}
 use Rattle.memory.specs.Bytes.{value, bytesOf, part, numberAt, replaced}
 use Rattle.memory.specs.Search.{pick}
 use Rattle.memory.proofs.Parts.{bytesOf-length, number-replaced, number-apart, part-apart, replaced-length}
@@ -20,7 +21,7 @@ use Rattle.memory.proofs.Search.{picked}
 use Rattle.memory.proofs.Tests.{and-split, and-false, lt-or-le, true-or-false}
 use Rattle.table.specs.declared.Object.{Object}
 use Rattle.state.specs.declared.ObjectState.{ObjectState}
-use Rattle.state.specs.Layout.{queues, objectRow, objectFields, objectState, withObjectState}
+use Rattle.state.specs.Layout.{rowSize, queues, objectRow, objectFields, objectState, withObjectState}
 use Rattle.state.proofs.RowLaws.{object-part}
 use Rattle.message.specs.Objects.{Held, marked, passesFilter, afterFilter, around, placeAt, delivered, enters, deliver, oldest, dequeued, dequeue}
 use Rattle.message.specs.Queues.{valueBehind, oldestValues, waiting}
@@ -93,7 +94,7 @@ record RingFits (s : ObjectState) : Type 0 where
   queue : s .queue < 2 ^ 16
 
 -- what waits then: the values that the row tells of, as they stood before
-waiting-stored : (depth i : ℕ) (m : List ℕ) (s : ObjectState) → i < 128 → objectRow i + 16 ≤ length m → RingFits s
+waiting-stored : (depth i : ℕ) (m : List ℕ) (s : ObjectState) → i < mostObjects → objectRow i + rowSize ≤ length m → RingFits s
     → waiting depth i (withObjectState m i s) ≡ oldestValues depth s m (s .count)
 unfolding waiting numberAt withObjectState objectState
 waiting-stored depth i m s low room fits =
@@ -108,7 +109,7 @@ waiting-stored depth i m s low room fits =
 -- ---- receive
 
 -- the row lies in working memory
-held-row : (depth i : ℕ) (m : List ℕ) → Held depth i m → objectRow i + 16 ≤ length m
+held-row : (depth i : ℕ) (m : List ℕ) → Held depth i m → objectRow i + rowSize ≤ length m
 held-row depth i m held = omega (arith, held .number, held .long)
 
 -- the oldest value is the first, and a receive leaves the others
@@ -162,7 +163,7 @@ module _ (o : Object) (i v : ℕ) (m : List ℕ) (held : Held (o .depth) i m) wh
   place-room = omega (arith, queue-room (o .depth) i m held .room (objectState m i .count) (held .count), bytesOf-length 4 v)
 
   -- and so does the row still
-  row-room : (enter : Bool) → objectRow i + 16 ≤ length (enqueued enter (o .depth) i v m)
+  row-room : (enter : Bool) → objectRow i + rowSize ≤ length (enqueued enter (o .depth) i v m)
   row-room true =
       omega (arith, held-row (o .depth) i m held, replaced-length (placeAt (o .depth) (objectState m i) (objectState m i .count)) (bytesOf 4 v) m place-room)
   row-room false = held-row (o .depth) i m held

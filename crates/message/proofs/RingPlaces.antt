@@ -9,6 +9,7 @@ use native.Mathlib.Omega.{arith}
 use borrow.Author.Tests.{lt-ltb, le-ltb}
 use lib.Dec.{ltb}
 use lib.ListN.{length}
+use Rattle.table.specs.Records.{mostQueued}
 use Rattle.memory.proofs.Tests.{lt-or-le}
 use Rattle.state.specs.declared.ObjectState.{ObjectState}
 use Rattle.state.specs.Layout.{objectState}
@@ -31,7 +32,7 @@ around-lt depth p b =
 
 -- the places of an object's queue lie in working memory
 pub record QueueRoom (depth : ℕ) (s : ObjectState) (end : ℕ) : Type 0 where
-  pub queue : s .queue ≤ 512
+  pub queue : s .queue ≤ mostQueued
   pub head : s .head ≤ 16
   pub count : s .count ≤ 16
   pub room : (n : ℕ) → n ≤ depth → placeAt depth s n + 4 ≤ end
@@ -45,7 +46,7 @@ queue-room depth i m h =
       room = room;
     }
   where
-    inside : (n : ℕ) → n ≤ depth → objectState m i .queue + around depth (objectState m i .head + n) ≤ 512
+    inside : (n : ℕ) → n ≤ depth → objectState m i .queue + around depth (objectState m i .head + n) ≤ mostQueued
     inside n b =
         ⊎-elim
         (λ (some : 0 < depth). omega (arith, h .queue, around-lt depth (objectState m i .head + n) (omega (arith, b, h .head))))

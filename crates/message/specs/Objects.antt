@@ -16,7 +16,7 @@ use Rattle.table.specs.declared.Counts.{Counts}
 use Rattle.table.specs.declared.Direction.{Direction}
 use Rattle.table.specs.declared.Direction.the-variants.{Send, Receive}
 use Rattle.table.specs.declared.Object.{Object}
-use Rattle.table.specs.Records.{absent, objectRecord}
+use Rattle.table.specs.Records.{mostQueued, mostObjects, mostIpdus, absent, objectRecord}
 use Rattle.table.specs.Decode.{objectOf}
 use Rattle.state.specs.declared.ObjectState.{ObjectState}
 use Rattle.state.specs.Layout.{memorySize, queues, slotAt, objectState, withObjectState}
@@ -28,18 +28,18 @@ object t c i = objectOf (objectRecord t (c .ipdus) i)
 
 -- what its functions ask for: a row in range, of an object with this queue depth
 pub record Held (depth i : ℕ) (m : List ℕ) : Type 0 where
-  pub number : i < 128
+  pub number : i < mostObjects
   pub long : memorySize ≤ length m
   pub few : depth ≤ 16
   pub count : objectState m i .count ≤ depth
   pub head : objectState m i .head ≤ depth - 1
-  pub queue : objectState m i .queue + depth ≤ 512
+  pub queue : objectState m i .queue + depth ≤ mostQueued
 
 -- an object whose bits lie in a slot
 pub record Placed (o : Object) (m : List ℕ) : Type 0 where
   pub long : memorySize ≤ length m
   pub slot : InSlot (o .at) (o .size .0)
-  pub ipdu : eqb (o .ipdu .0) absent ≡ false → o .ipdu .0 < 32
+  pub ipdu : eqb (o .ipdu .0) absent ≡ false → o .ipdu .0 < mostIpdus
 
 -- ---- marks: arrived 1, sent 2, receive error 4, send error 8, added
 

@@ -12,11 +12,12 @@ ghost use mathlib.Core.Path.{_≡_};
 ghost use Prim.Native.Nat.{_+_, _≤_, _<_};
 ghost use lib.Dec.{ltb};
 ghost use lib.ListN.{length};
+ghost use Rattle.table.specs.Records.{mostQueued, mostIpdus, sending};
 ghost use Rattle.memory.specs.Bytes.{bytesOf, replaced};
 ghost use Rattle.memory.specs.Search.{pick};
 ghost use Rattle.filter.specs.Filters.{HasPeriod};
 ghost use Rattle.table.specs.declared.Direction.the-variants.{Send};
-ghost use Rattle.state.specs.Layout.{objectRow, objectState, withObjectState};
+ghost use Rattle.state.specs.Layout.{rowSize, objectRow, objectState, withObjectState};
 ghost use Rattle.state.specs.Updates.{withOld, withValue, withQueue};
 ghost use Rattle.message.specs.Objects.{Held, Placed, passesFilter, afterFilter, around, placeAt, enters, delivered, deliver, oldest, dequeue, pack, unpack, initialiseAs, initialise};
 
@@ -40,7 +41,7 @@ pub fn deliver(m: &mut [u8], number: ObjectNumber, o: Object, v: u32)
 
 // Filters a value on the sending side, and answers whether it passed.
 pub fn filter_sent(m: &mut [u8], number: ObjectNumber, o: Object, v: u32) -> bool
-    requires { ⌜ objectRow (number .0) + 16 ≤ length (now m) ⌝ }
+    requires { ⌜ objectRow (number .0) + rowSize ≤ length (now m) ⌝ }
     requires { ⌜ HasPeriod (o .filter) ⌝ }
     ensures passed { λ r. ⌜ r ≡ passesFilter o v (objectState (now (m .entry)) (number .0)) ⌝ }
     ensures row { λ r. ⌜ now (m .exit) ≡ withObjectState (now (m .entry)) (number .0) (afterFilter r v (objectState (now (m .entry)) (number .0))) ⌝ }
@@ -91,7 +92,7 @@ pub fn pack(m: &mut [u8], o: Object, v: u32)
 // The value that an object has in its I-PDU.
 pub(crate) fn unpack(m: &[u8], o: Object) -> u32
     requires { ⌜ Placed o (now m) ⌝ }
-    requires { ⌜ o .ipdu .0 < 32 ⌝ }
+    requires { ⌜ o .ipdu .0 < mostIpdus ⌝ }
     ensures { λ r. ⌜ r ≡ unpack o (now (m .entry)) ⌝ }
 {
     let k = o.ipdu.0 as usize;
@@ -101,7 +102,7 @@ pub(crate) fn unpack(m: &[u8], o: Object) -> u32
 
 // Sets the value of an object, with no filter and no request.
 pub fn initialise(m: &mut [u8], number: ObjectNumber, o: Object, v: u32)
-    requires { ⌜ objectRow (number .0) + 16 ≤ length (now m) ⌝ }
+    requires { ⌜ objectRow (number .0) + rowSize ≤ length (now m) ⌝ }
     requires { ⌜ Placed o (now m) ⌝ }
     ensures { λ _. ⌜ now (m .exit) ≡ initialise o (number .0) v (now (m .entry)) ⌝ }
 {
@@ -113,7 +114,7 @@ pub fn initialise(m: &mut [u8], number: ObjectNumber, o: Object, v: u32)
 }
 
 fn initialise_send(m: &mut [u8], number: ObjectNumber, o: Object, v: u32)
-    requires { ⌜ objectRow (number .0) + 16 ≤ length (now m) ⌝ }
+    requires { ⌜ objectRow (number .0) + rowSize ≤ length (now m) ⌝ }
     requires { ⌜ Placed o (now m) ⌝ }
     ensures { λ _. ⌜ now (m .exit) ≡ initialiseAs Send o (number .0) v (now (m .entry)) ⌝ }
 {
@@ -124,7 +125,7 @@ fn initialise_send(m: &mut [u8], number: ObjectNumber, o: Object, v: u32)
 }
 
 fn initialise_receive(m: &mut [u8], number: ObjectNumber, v: u32)
-    requires { ⌜ objectRow (number .0) + 16 ≤ length (now m) ⌝ }
+    requires { ⌜ objectRow (number .0) + rowSize ≤ length (now m) ⌝ }
     ensures { λ _. ⌜ now (m .exit) ≡ withObjectState (now (m .entry)) (number .0) (withOld v (withValue v (withQueue 0 0 0 (objectState (now (m .entry)) (number .0))))) ⌝ }
 {
     let mut s = state::object_state(m, number);
@@ -184,7 +185,7 @@ fn enqueue(m: &mut [u8], enters: bool, at: usize, v: u32)
 
 // The byte where the value behind the `n` oldest ones stands.
 fn place_at(depth: u32, s: ObjectState, n: u32) -> usize
-    requires { ⌜ (s .queue ≤ 512) × (s .head ≤ 16) × (n ≤ 16) ⌝ }
+    requires { ⌜ (s .queue ≤ mostQueued) × (s .head ≤ 16) × (n ≤ 16) ⌝ }
     ensures { λ r. ⌜ r ≡ placeAt depth s n ⌝ }
 {
     let place = s.queue + around(depth, s.head + n);

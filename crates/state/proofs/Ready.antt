@@ -16,13 +16,13 @@ use Rattle.memory.proofs.Tests.{and-split, eq-or-ne}
 use Rattle.table.specs.declared.Counts.{Counts}
 use Rattle.table.specs.declared.Direction.the-variants.{Send, Receive}
 use Rattle.table.specs.declared.Ipdu.{Ipdu}
-use Rattle.table.specs.Records.{ipduRecord, objectRecord}
+use Rattle.table.specs.Records.{mostQueued, ipduRecord, objectRecord}
 use Rattle.table.specs.Check.{depths}
 use Rattle.table.specs.Decode.{ipduOf, Right}
 use Rattle.table.proofs.Accepted.{Usable, usable}
 use Rattle.state.specs.declared.IpduState.{IpduState}
 use Rattle.state.specs.declared.ObjectState.{ObjectState}
-use Rattle.state.specs.Layout.{memorySize, runningAt, ipduRow, ipduState, withIpduState, objectRow, objectState, withObjectState}
+use Rattle.state.specs.Layout.{rowSize, queues, objectRows, slots, memorySize, runningAt, ipduRow, ipduState, withIpduState, objectRow, objectState, withObjectState}
 use Rattle.state.specs.Ranges.{inRangeAs, ipduInRange, objectInRange, ipduOut, objectOut, inRange, Ready}
 use Rattle.state.proofs.RowLaws.{IpduFits, ObjectFits, ipdu-length, ipdu-part, ipdu-stored, ipdu-bytes, ipdu-fits, ipdu-read, ipdu-other, ipdu-keeps-objects, object-length, object-part, object-stored, object-bytes, object-fits, object-read, object-other, object-keeps-ipdus}
 use Rattle.state.proofs.Turns.{depth-sum}
@@ -76,15 +76,15 @@ module _ (t : List ℕ) (c : Counts) (m : List ℕ) (ready : Ready t c m) where
   -- where an object's queue ends, and its depth
   pub record InQueues (i : ℕ) : Type 0 where
     pub depth : objectRecord t (c .ipdus) i .depth ≤ 16
-    pub sum : depths t c i + objectRecord t (c .ipdus) i .depth ≤ 512
+    pub sum : depths t c i + objectRecord t (c .ipdus) i .depth ≤ mostQueued
 
   pub in-queues : (i : ℕ) → i < c .objects → InQueues i
   in-queues i h = record { depth = usable t c (ready .right) i h .depth; sum = depth-sum t c (ready .right) i h }
 
-  pub object-row : (i : ℕ) → i < c .objects → objectRow i + 16 ≤ length m
+  pub object-row : (i : ℕ) → i < c .objects → objectRow i + rowSize ≤ length m
   object-row i h = omega (arith, h, ready .long, ready .right .shape .objects)
 
-  pub ipdu-row : (k : ℕ) → k < c .ipdus → ipduRow k + 16 ≤ length m
+  pub ipdu-row : (k : ℕ) → k < c .ipdus → ipduRow k + rowSize ≤ length m
   ipdu-row k h = omega (arith, h, ready .long, ready .right .shape .ipdus)
 
   pub ready-kept : (i : ℕ) → i < c .objects → ObjectKept (objectRecord t (c .ipdus) i .depth) (depths t c i) (objectState m i)
@@ -120,7 +120,7 @@ module _ (t : List ℕ) (c : Counts) (m : List ℕ) (ready : Ready t c m) where
         objects = objects;
       }
     where
-      room : objectRow i + 16 ≤ length m
+      room : objectRow i + rowSize ≤ length m
       room = object-row i h
 
       fits : ObjectFits s
@@ -149,7 +149,7 @@ module _ (t : List ℕ) (c : Counts) (m : List ℕ) (ready : Ready t c m) where
         objects = λ i b. rw (ipdu-keeps-objects m k s room (omega (arith, h, ready .right .shape .ipdus)) i) (ready .objects i b);
       }
     where
-      room : ipduRow k + 16 ≤ length m
+      room : ipduRow k + rowSize ≤ length m
       room = ipdu-row k h
 
       ipdus : (j : ℕ) → j < c .ipdus → ipduInRange (ipduOf (ipduRecord t j)) (ipduState (withIpduState m k s) j) ≡ true
@@ -160,7 +160,7 @@ module _ (t : List ℕ) (c : Counts) (m : List ℕ) (ready : Ready t c m) where
           (eq-or-ne j k)
 
   -- other bytes: the slots, or the queues and all behind them
-  pub ready-bytes : (at : ℕ) (f : List ℕ) → Bytes f → at + length f ≤ length m → ((528 ≤ at) × (at + length f ≤ 784)) ⊎ (2832 ≤ at)
+  pub ready-bytes : (at : ℕ) (f : List ℕ) → Bytes f → at + length f ≤ length m → ((slots ≤ at) × (at + length f ≤ objectRows)) ⊎ (queues ≤ at)
       → Ready t c (replaced at f m)
   unfolding runningAt numberAt
   ready-bytes at f bs room side =
@@ -178,14 +178,14 @@ module _ (t : List ℕ) (c : Counts) (m : List ℕ) (ready : Ready t c m) where
             (ready .objects i b);
       }
     where
-      same : (j w : ℕ) → (j + w ≤ 528) ⊎ ((784 ≤ j) × (j + w ≤ 2832)) → part j w (replaced at f m) ≡ part j w m
+      same : (j w : ℕ) → (j + w ≤ slots) ⊎ ((objectRows ≤ j) × (j + w ≤ queues)) → part j w (replaced at f m) ≡ part j w m
       same j w row =
           part-apart at f m j w room
           (⊎-elim
-          (λ (low : (528 ≤ at) × (at + length f ≤ 784)).
-          ⊎-elim (λ (a : j + w ≤ 528). inl (omega (arith, low .0))) (λ (b : (784 ≤ j) × (j + w ≤ 2832)). inr (omega (arith, low .1, b .0))) row)
-          (λ (high : 2832 ≤ at).
-          ⊎-elim (λ (a : j + w ≤ 528). inl (omega arith)) (λ (b : (784 ≤ j) × (j + w ≤ 2832)). inl (omega (arith, b .1))) row)
+          (λ (low : (slots ≤ at) × (at + length f ≤ objectRows)).
+          ⊎-elim (λ (a : j + w ≤ slots). inl (omega (arith, low .0))) (λ (b : (objectRows ≤ j) × (j + w ≤ queues)). inr (omega (arith, low .1, b .0))) row)
+          (λ (high : queues ≤ at).
+          ⊎-elim (λ (a : j + w ≤ slots). inl (omega arith)) (λ (b : (objectRows ≤ j) × (j + w ≤ queues)). inl (omega (arith, b .1))) row)
           side)
 
 -- ---- what was found in range, and back

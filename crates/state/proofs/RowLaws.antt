@@ -8,6 +8,7 @@ use Prim.Native.Nat.{ℕ, _+_, _*_, _^_, _≤_, _<_}
 use native.Mathlib.Nat.{mod-eq-of-lt}
 use native.Mathlib.Omega.{arith}
 use lib.ListN.{length}
+use Rattle.table.specs.Records.{mostIpdus}
 use Rattle.memory.specs.Bytes.{Bytes, value, numberAt, part}
 use Rattle.memory.specs.Rows.{Field, put, rising}
 use Rattle.memory.proofs.Parts.{number-lt}
@@ -15,7 +16,7 @@ use Rattle.memory.proofs.Rows.{put-length, put-apart, put-holds, put-bytes}
 use Rattle.memory.proofs.Tests.{lt-or-le}
 use Rattle.state.specs.declared.IpduState.{IpduState}
 use Rattle.state.specs.declared.ObjectState.{ObjectState}
-use Rattle.state.specs.Layout.{ipduRows, ipduRow, ipduFields, ipduState, withIpduState, objectRows, objectRow, objectFields, objectState, withObjectState}
+use Rattle.state.specs.Layout.{rowSize, ipduRows, ipduRow, ipduFields, ipduState, withIpduState, objectRows, objectRow, objectFields, objectState, withObjectState}
 
 -- the numbers fit their bytes
 pub record IpduFits (s : IpduState) : Type 0 where
@@ -51,13 +52,13 @@ other-row : (base j k o w : ℕ) → (j ≡ k → ⊥) → o + w ≤ 16 → (bas
 other-row base j k o w ne h =
     ⊎-elim (λ (b : j < k). inl (omega arith)) (λ (b : k ≤ j). inr (omega (arith, ne))) (lt-or-le j k)
 
-module _ (m : List ℕ) (k : ℕ) (s : IpduState) (room : ipduRow k + 16 ≤ length m) where
+module _ (m : List ℕ) (k : ℕ) (s : IpduState) (room : ipduRow k + rowSize ≤ length m) where
   pub ipdu-length : length (withIpduState m k s) ≡ length m
   unfolding withIpduState
   ipdu-length = put-length (ipduRow k) 0 16 (ipduFields s) m refl room
 
   -- apart from the row
-  pub ipdu-part : (j w : ℕ) → (j + w ≤ ipduRow k) ⊎ (ipduRow k + 16 ≤ j) → part j w (withIpduState m k s) ≡ part j w m
+  pub ipdu-part : (j w : ℕ) → (j + w ≤ ipduRow k) ⊎ (ipduRow k + rowSize ≤ j) → part j w (withIpduState m k s) ≡ part j w m
   unfolding withIpduState
   ipdu-part = row-part (ipduRow k) (ipduFields s) m refl room
 
@@ -82,12 +83,12 @@ module _ (m : List ℕ) (k : ℕ) (s : IpduState) (room : ipduRow k + 16 ≤ len
         mod-eq-of-lt (f .timer),
       )
 
-module _ (m : List ℕ) (i : ℕ) (s : ObjectState) (room : objectRow i + 16 ≤ length m) where
+module _ (m : List ℕ) (i : ℕ) (s : ObjectState) (room : objectRow i + rowSize ≤ length m) where
   pub object-length : length (withObjectState m i s) ≡ length m
   unfolding withObjectState
   object-length = put-length (objectRow i) 0 16 (objectFields s) m refl room
 
-  pub object-part : (j w : ℕ) → (j + w ≤ objectRow i) ⊎ (objectRow i + 16 ≤ j) → part j w (withObjectState m i s) ≡ part j w m
+  pub object-part : (j w : ℕ) → (j + w ≤ objectRow i) ⊎ (objectRow i + rowSize ≤ j) → part j w (withObjectState m i s) ≡ part j w m
   unfolding withObjectState
   object-part = row-part (objectRow i) (objectFields s) m refl room
 
@@ -184,22 +185,22 @@ object-read m n j e =
 
 -- ---- other rows are as they were
 
-pub ipdu-other : (m : List ℕ) (k : ℕ) (s : IpduState) → ipduRow k + 16 ≤ length m → (j : ℕ) → (j ≡ k → ⊥)
+pub ipdu-other : (m : List ℕ) (k : ℕ) (s : IpduState) → ipduRow k + rowSize ≤ length m → (j : ℕ) → (j ≡ k → ⊥)
     → ipduState (withIpduState m k s) j ≡ ipduState m j
 ipdu-other m k s room j ne =
     ipdu-read (withIpduState m k s) m j (λ o w h. ipdu-part m k s room (ipduRow j + o) w (other-row ipduRows j k o w ne h))
 
-pub object-other : (m : List ℕ) (i : ℕ) (s : ObjectState) → objectRow i + 16 ≤ length m → (j : ℕ) → (j ≡ i → ⊥)
+pub object-other : (m : List ℕ) (i : ℕ) (s : ObjectState) → objectRow i + rowSize ≤ length m → (j : ℕ) → (j ≡ i → ⊥)
     → objectState (withObjectState m i s) j ≡ objectState m j
 object-other m i s room j ne =
     object-read (withObjectState m i s) m j (λ o w h. object-part m i s room (objectRow j + o) w (other-row objectRows j i o w ne h))
 
-pub ipdu-keeps-objects : (m : List ℕ) (k : ℕ) (s : IpduState) → ipduRow k + 16 ≤ length m → k < 32 → (i : ℕ)
+pub ipdu-keeps-objects : (m : List ℕ) (k : ℕ) (s : IpduState) → ipduRow k + rowSize ≤ length m → k < mostIpdus → (i : ℕ)
     → objectState (withIpduState m k s) i ≡ objectState m i
 ipdu-keeps-objects m k s room low i =
     object-read (withIpduState m k s) m i (λ o w h. ipdu-part m k s room (objectRow i + o) w (inr (omega arith)))
 
-pub object-keeps-ipdus : (m : List ℕ) (i : ℕ) (s : ObjectState) → objectRow i + 16 ≤ length m → (k : ℕ) → k < 32
+pub object-keeps-ipdus : (m : List ℕ) (i : ℕ) (s : ObjectState) → objectRow i + rowSize ≤ length m → (k : ℕ) → k < mostIpdus
     → ipduState (withObjectState m i s) k ≡ ipduState m k
 object-keeps-ipdus m i s room k low =
     ipdu-read (withObjectState m i s) m k (λ o w h. object-part m i s room (ipduRow k + o) w (inl (omega arith)))

@@ -8,7 +8,7 @@ use native.Mathlib.Omega.{arith}
 use Rattle.memory.proofs.Search.{sum-more}
 use Rattle.table.specs.declared.Ipdu.{Ipdu}
 use Rattle.table.specs.declared.ObjectRecord.{ObjectRecord}
-use Rattle.table.specs.Records.{ipduRecord, objectRecord}
+use Rattle.table.specs.Records.{mostQueued, ipduRecord, objectRecord}
 use Rattle.table.specs.declared.Counts.{Counts}
 use Rattle.table.specs.Check.{depths}
 use Rattle.table.specs.Decode.{ipduOf, Right}
@@ -26,5 +26,5 @@ pub object-test : (t : List ℕ) (c : Counts) (m : List ℕ) (i : ℕ) (b : Bool
     → objectOut t c m i ≡ not b
 object-test t c m i b r s first e f g h = rw (e, f, g, h)
 
-pub depth-sum : (t : List ℕ) (c : Counts) → Right t c → (i : ℕ) → i < c .objects → depths t c i + objectRecord t (c .ipdus) i .depth ≤ 512
+pub depth-sum : (t : List ℕ) (c : Counts) → Right t c → (i : ℕ) → i < c .objects → depths t c i + objectRecord t (c .ipdus) i .depth ≤ mostQueued
 depth-sum t c r i h = omega (arith, r .depth, sum-more (c .objects) (suc i) (λ j. objectRecord t (c .ipdus) j .depth) h)

@@ -7,13 +7,17 @@ use Rattle.memory.specs.Rows.{Field, fieldAt, put}
 use Rattle.state.specs.declared.IpduState.{IpduState}
 use Rattle.state.specs.declared.ObjectState.{ObjectState}
 
--- working memory, and the parts of it
+-- the bytes of working memory that are used
 abbrev pub memorySize : ℕ
 memorySize = 8192
 
 -- the bytes of a request area that are used
 abbrev pub areaSize : ℕ
 areaSize = 256
+
+-- a row of stored numbers, and where the parts of working memory begin
+abbrev pub rowSize : ℕ
+rowSize = 16
 
 abbrev pub ipduRows : ℕ
 ipduRows = 16
@@ -34,9 +38,9 @@ runningAt m = numberAt 1 0 m
 unfoldable pub withRunning : List ℕ → ℕ → List ℕ
 withRunning m on = replaced 0 (bytesOf 1 on) m
 
--- the stored numbers of I-PDU k, 16 bytes
+-- the stored numbers of I-PDU k
 abbrev pub ipduRow : ℕ → ℕ
-ipduRow k = ipduRows + 16 * k
+ipduRow k = ipduRows + rowSize * k
 
 unfoldable pub ipduState : List ℕ → ℕ → IpduState
 ipduState m k =
@@ -68,9 +72,9 @@ withIpduState m k s = put (ipduRow k) (ipduFields s) m
 abbrev pub slotAt : ℕ → ℕ
 slotAt k = slots + 8 * k
 
--- the stored numbers of object i, 16 bytes
+-- the stored numbers of object i
 abbrev pub objectRow : ℕ → ℕ
-objectRow i = objectRows + 16 * i
+objectRow i = objectRows + rowSize * i
 
 unfoldable pub objectState : List ℕ → ℕ → ObjectState
 objectState m i =

@@ -1,18 +1,19 @@
 -- The stored numbers of a row with some of them set, the others as they were.
 -- Assumes nothing.
-use Prim.Native.Nat.{ℕ, _+_, _%_}
+use Prim.Native.Nat.{ℕ}
+use Rattle.filter.specs.Filters.{nextOccurrence}
 use Rattle.state.specs.declared.IpduState.{IpduState}
 use Rattle.state.specs.declared.ObjectState.{ObjectState}
 
 -- ---- a message object
 
--- the occurrence rises after each filtering; from 255 it goes to 0
+-- one more filtering
 abbrev pub counted : ObjectState → ObjectState
 counted s =
     record {
       value = s .value;
       old = s .old;
-      occurrence = (s .occurrence + 1) % 256;
+      occurrence = nextOccurrence (s .occurrence);
       marks = s .marks;
       overflow = s .overflow;
       head = s .head;

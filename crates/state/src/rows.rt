@@ -8,11 +8,11 @@ use table::ObjectNumber;
 ghost use mathlib.Core.Path.{_≡_};
 ghost use Prim.Native.Nat.{_+_, _*_, _≤_};
 ghost use lib.ListN.{length};
-ghost use Rattle.state.specs.Layout.{ipduRow, ipduState, withIpduState, objectRow, objectState, withObjectState};
+ghost use Rattle.state.specs.Layout.{rowSize, ipduRow, ipduState, withIpduState, objectRow, objectState, withObjectState};
 
 // The stored numbers of an I-PDU.
 pub fn ipdu_state(m: &[u8], number: IpduNumber) -> IpduState
-    requires { ⌜ ipduRow (number .0) + 16 ≤ length (now m) ⌝ }
+    requires { ⌜ ipduRow (number .0) + rowSize ≤ length (now m) ⌝ }
     ensures { λ r. ⌜ r ≡ ipduState (now (m .entry)) (number .0) ⌝ }
 {
     let a = IPDU_ROWS + 16 * (number.0 as usize);
@@ -29,7 +29,7 @@ pub fn ipdu_state(m: &[u8], number: IpduNumber) -> IpduState
 
 // Stores the numbers of an I-PDU.
 pub fn set_ipdu_state(m: &mut [u8], number: IpduNumber, s: IpduState)
-    requires { ⌜ ipduRow (number .0) + 16 ≤ length (now m) ⌝ }
+    requires { ⌜ ipduRow (number .0) + rowSize ≤ length (now m) ⌝ }
     ensures { λ _. ⌜ now (m .exit) ≡ withIpduState (now (m .entry)) (number .0) s ⌝ }
 {
     let a = IPDU_ROWS + 16 * (number.0 as usize);
@@ -44,7 +44,7 @@ pub fn set_ipdu_state(m: &mut [u8], number: IpduNumber, s: IpduState)
 
 // The stored numbers of an object.
 pub fn object_state(m: &[u8], number: ObjectNumber) -> ObjectState
-    requires { ⌜ objectRow (number .0) + 16 ≤ length (now m) ⌝ }
+    requires { ⌜ objectRow (number .0) + rowSize ≤ length (now m) ⌝ }
     ensures { λ r. ⌜ r ≡ objectState (now (m .entry)) (number .0) ⌝ }
 {
     let a = OBJECT_ROWS + 16 * (number.0 as usize);
@@ -62,7 +62,7 @@ pub fn object_state(m: &[u8], number: ObjectNumber) -> ObjectState
 
 // Stores the numbers of an object.
 pub fn set_object_state(m: &mut [u8], number: ObjectNumber, s: ObjectState)
-    requires { ⌜ objectRow (number .0) + 16 ≤ length (now m) ⌝ }
+    requires { ⌜ objectRow (number .0) + rowSize ≤ length (now m) ⌝ }
     ensures { λ _. ⌜ now (m .exit) ≡ withObjectState (now (m .entry)) (number .0) s ⌝ }
 {
     let a = OBJECT_ROWS + 16 * (number.0 as usize);

@@ -20,7 +20,7 @@ use Rattle.table.specs.declared.Counts.{Counts}
 use Rattle.table.specs.declared.ObjectRecord.{ObjectRecord}
 use Rattle.table.specs.declared.Verdict.{Verdict}
 use Rattle.table.specs.declared.Verdict.the-variants.{Accepted, WrongHeader, WrongIpdu, WrongObject}
-use Rattle.table.specs.Records.{counts, ipduRecord, objectRecord}
+use Rattle.table.specs.Records.{mostQueued, sending, counts, ipduRecord, objectRecord}
 use Rattle.table.specs.Rules.{headerRight, ipduRight, orderOf, references, withoutIpdu, withinIpdu, senderRight, objectRight}
 use Rattle.table.specs.Check.{Shape, wrongIpdu, wrongAlone, overlapsLower, depths, pastDepth, wrongObject, checkObjects, checkIpdus, checkRecords, check}
 use Rattle.table.specs.Decode.{Right}
@@ -39,7 +39,7 @@ right-accepted t c r =
     fine : (i : ℕ) → i < c .objects → wrongObject t c i ≡ false
     fine i h =
         let low : pastDepth t c i ≡ false =
-        le-ltb 512 (depths t c (suc i)) (omega (arith, r .depth, sum-more (c .objects) (suc i) (λ j. objectRecord t (c .ipdus) j .depth) h)) in
+        le-ltb mostQueued (depths t c (suc i)) (omega (arith, r .depth, sum-more (c .objects) (suc i) (λ j. objectRecord t (c .ipdus) j .depth) h)) in
         rw (r .objects i h, r .apart i h) low
 
 -- ---- nothing wrong where accepted
@@ -61,10 +61,10 @@ module _ (t : List ℕ) where
       parts : (i : ℕ) → i < c .objects → (wrongAlone t c i ≡ false) × (overlapsLower t (c .ipdus) i ≡ false)
       parts i b = or-split (wrongAlone t c i) (overlapsLower t (c .ipdus) i) (or-split (wrongAlone t c i || overlapsLower t (c .ipdus) i) (pastDepth t c i) (objects i b) .0)
 
-      low : (k : ℕ) → k ≤ c .objects → depths t c k ≤ 512
+      low : (k : ℕ) → k ≤ c .objects → depths t c k ≤ mostQueued
       low zero b = zero-le
       low (suc i) b =
-          ltb-false 512 (depths t c (suc i))
+          ltb-false mostQueued (depths t c (suc i))
           (or-split (wrongAlone t c i || overlapsLower t (c .ipdus) i) (pastDepth t c i) (objects i b) .1)
 
   pub accepted-right : (c : Counts) → check t ≡ Accepted c → Right t c
@@ -119,7 +119,7 @@ pub record Usable (t : List ℕ) (c : Counts) (r : ObjectRecord) : Type 0 where
   pub slot : InSlot (position (orderOf (r .order)) (r .start)) (r .size)
   pub ipdu : eqb (r .ipdu) 255 ≡ false → (r .ipdu < c .ipdus) × (ipduRecord t (r .ipdu) .direction ≡ r .kind)
   pub room : eqb (r .ipdu) 255 ≡ false → room (orderOf (r .order)) (r .start) (r .size) (ipduRecord t (r .ipdu) .length) ≡ true
-  pub sender : eqb (r .sender) 255 ≡ false → (r .sender < c .objects) × (objectRecord t (c .ipdus) (r .sender) .kind ≡ 1)
+  pub sender : eqb (r .sender) 255 ≡ false → (r .sender < c .objects) × (objectRecord t (c .ipdus) (r .sender) .kind ≡ sending)
   pub depth : r .depth ≤ 16
   pub filter : HasPeriod (filterOf (r .filter) (r .first) (r .second))
 
@@ -167,7 +167,7 @@ usable t c right i h =
         (here .start, here .slot))
         (true-or-false (withoutIpdu r))
 
-    sender : eqb (r .sender) 255 ≡ false → (r .sender < c .objects) × (objectRecord t (c .ipdus) (r .sender) .kind ≡ 1)
+    sender : eqb (r .sender) 255 ≡ false → (r .sender < c .objects) × (objectRecord t (c .ipdus) (r .sender) .kind ≡ sending)
     sender some =
         let x = references t c r in
         let same : x .«sender_kind» ≡ 1 = eqb-true _ _ (or-right (eqb (r .sender) 255) (eqb (x .«sender_kind») 1) some (facts .senders)) in

@@ -19,7 +19,7 @@ use Rattle.table.specs.declared.Counts.{Counts}
 use Rattle.table.specs.declared.IpduRecord.{IpduRecord}
 use Rattle.table.specs.declared.ObjectRecord.{ObjectRecord}
 use Rattle.table.specs.declared.References.{References}
-use Rattle.table.specs.Records.{tableLength, counts, ipduRecord, objectRecord}
+use Rattle.table.specs.Records.{receiving, sending, tableLength, counts, ipduRecord, objectRecord}
 use Rattle.table.specs.Rules.{ipduRight, sendIpdu, receiveIpdu, ipduBytes, orderOf, references, sendObject, receiveObject, withoutIpdu, withinIpdu, senderRight, bytesRight, objectRight}
 use Rattle.table.specs.Check.{Shape, isSent, wrongIpdu, wrongAlone}
 use Rattle.table.specs.Masks.{RightAlone, Placed}
@@ -87,7 +87,7 @@ pub record IpduFacts (r : IpduRecord) : Type 0 where
   pub least : 1 ≤ r .length
   pub most : r .length ≤ 8
   pub modes : r .mode ≤ 2
-  pub directions : (eqb (r .direction) 1 && sendIpdu r || eqb (r .direction) 2 && receiveIpdu r) ≡ true
+  pub directions : (eqb (r .direction) sending && sendIpdu r || eqb (r .direction) receiving && receiveIpdu r) ≡ true
 
 pub ipdu-facts : (r : IpduRecord) → ipduRight r ≡ true → IpduFacts r
 unfolding ipduRight
@@ -97,7 +97,7 @@ ipdu-facts r e =
     let b3 : Bool = leb (r .mode) 2 in
     let b4 : Bool = eqb (r .«zero_3») 0 in
     let b5 : Bool = eqb (r .«zero_14») 0 in
-    let b6 : Bool = eqb (r .direction) 1 && sendIpdu r || eqb (r .direction) 2 && receiveIpdu r in
+    let b6 : Bool = eqb (r .direction) sending && sendIpdu r || eqb (r .direction) receiving && receiveIpdu r in
     let a5 = and-split (b1 && b2 && b3 && b4 && b5) b6 e in
     let a4 = and-split (b1 && b2 && b3 && b4) b5 (a5 .0) in
     let a3 = and-split (b1 && b2 && b3) b4 (a4 .0) in
@@ -163,7 +163,7 @@ pub placed : (t : List ℕ) (c : Counts) (end : ℕ) → RightAlone t c end → 
 placed t c end right i h sent =
     let r = objectRecord t (c .ipdus) i in
     let facts = object-facts r (references t c r) (not-false _ (right .alone i h)) in
-    let some : eqb (r .ipdu) 255 ≡ false = not-true _ (and-split (eqb (r .kind) 1) (not (eqb (r .ipdu) 255)) sent .1) in
+    let some : eqb (r .ipdu) 255 ≡ false = not-true _ (and-split (eqb (r .kind) sending) (not (eqb (r .ipdu) 255)) sent .1) in
     let away : withoutIpdu r ≡ false = rw some in
     let here =
     in-ipdu t c (λ k b. not-false _ (right .ipdus k b)) r facts

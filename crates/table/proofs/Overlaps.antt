@@ -22,7 +22,7 @@ use Rattle.bits.proofs.Places.{Run, position-twice}
 use Rattle.bits.proofs.Masks.{Describes, mask-bit, mask-lt, words-share, words-join}
 use Rattle.table.proofs.Turns.{or-false}
 use Rattle.table.specs.declared.ObjectRecord.{ObjectRecord}
-use Rattle.table.specs.Records.{objectRecord}
+use Rattle.table.specs.Records.{mostIpdus, objectRecord}
 use Rattle.table.specs.Rules.{orderOf}
 use Rattle.table.specs.Check.{isSent, ownsBit, shareBit, overlapsLower}
 use Rattle.table.specs.Masks.{Placed, maskOf, clear, claimed}
@@ -72,14 +72,14 @@ split false b f = refl
 zeros : (k : ℕ) → _≡_ {A = ℕ} (getD (replicate 32 0) k 0) 0
 zeros k =
     ⊎-elim
-    (λ (h : k < 32). getD-replicate 32 k 0 0 h)
+    (λ (h : k < mostIpdus). getD-replicate 32 k 0 0 h)
     (λ (h : 32 ≤ k). List·getD-eq-default (replicate 32 0) 0 {n = k} h)
     (lt-or-le k 32)
 
 record Words (t : List ℕ) (ipdus i : ℕ) : Type 0 where
   long : length (usedAfter t ipdus i) ≡ 32
   small : (k : ℕ) → getD (usedAfter t ipdus i) k 0 < 2 ^ 64
-  bits : (k : ℕ) → k < 32 → Describes (getD (usedAfter t ipdus i) k 0) (λ p. anyBelow i (owner t ipdus k p))
+  bits : (k : ℕ) → k < mostIpdus → Describes (getD (usedAfter t ipdus i) k 0) (λ p. anyBelow i (owner t ipdus k p))
 
 module _ (t : List ℕ) (ipdus end : ℕ) (placed : (i : ℕ) → i < end → isSent (objectRecord t ipdus i) ≡ true → Placed (objectRecord t ipdus i)) where
   -- one more object: it is not sent, or its mask joins its I-PDU's word
@@ -113,7 +113,7 @@ module _ (t : List ℕ) (ipdus end : ℕ) (placed : (i : ℕ) → i < end → is
           (λ (ne : k ≡ r .ipdu → ⊥). rw (getD-set-other used (r .ipdu) k joined 0 ne) (w .small k))
           (eq-or-ne k (r .ipdu))
 
-      bits-after : Placed r → (k : ℕ) → k < 32
+      bits-after : Placed r → (k : ℕ) → k < mostIpdus
           → Describes (getD (set used (r .ipdu) joined) k 0) (λ p. anyBelow i (owner t ipdus k p) || eqb (r .ipdu) k && ownsBit r p)
       bits-after pl k inside p low =
           ⊎-elim

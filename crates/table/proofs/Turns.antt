@@ -14,7 +14,7 @@ use Rattle.table.specs.declared.Counts.{Counts}
 use Rattle.table.specs.declared.IpduRecord.{IpduRecord}
 use Rattle.table.specs.declared.ObjectRecord.{ObjectRecord}
 use Rattle.table.specs.declared.References.{References}
-use Rattle.table.specs.Records.{ipduRecord, objectRecord}
+use Rattle.table.specs.Records.{mostQueued, ipduRecord, objectRecord}
 use Rattle.table.specs.Rules.{ipduRight, references, objectRight}
 use Rattle.table.specs.Check.{wrongIpdu, wrongAlone, depths, pastDepth}
 
@@ -42,13 +42,13 @@ module _ (t : List ℕ) (c : Counts) (i : ℕ) (r : ObjectRecord) (here : r ≡ 
   wrong-alone b x e f wrong = rw (object-test b x e f, wrong)
 
   -- it carries the depth sum past 512
-  pub wrong-depth : (depth : ℕ) → depth ≡ depths t c i → 512 < depth + r .depth → (wrongAlone t c i || pastDepth t c i) ≡ true
+  pub wrong-depth : (depth : ℕ) → depth ≡ depths t c i → mostQueued < depth + r .depth → (wrongAlone t c i || pastDepth t c i) ≡ true
   wrong-depth depth e past =
       or-true (wrongAlone t c i) (pastDepth t c i) (lt-ltb _ _ (rw (next-depth depth e) at past))
 
   -- neither
   pub right-alone : (b : Bool) (x : References) → b ≡ objectRight r x → x ≡ references t c r → b ≡ true
-      → (depth : ℕ) → depth ≡ depths t c i → depth + r .depth ≤ 512 → (wrongAlone t c i || pastDepth t c i) ≡ false
+      → (depth : ℕ) → depth ≡ depths t c i → depth + r .depth ≤ mostQueued → (wrongAlone t c i || pastDepth t c i) ≡ false
   right-alone b x e f right depth d within = rw (object-test b x e f, right) (le-ltb _ _ (rw (next-depth depth d) at within))
 
   pub more-depth : (depth : ℕ) → depth ≡ depths t c i → depth + r .depth ≡ depths t c (i + 1)

@@ -13,7 +13,7 @@ use Rattle.memory.proofs.Tests.{or-split, true-not-false}
 use Rattle.memory.proofs.Search.{below-suc, least-at, least-none, least-before}
 use Rattle.table.specs.declared.Counts.{Counts}
 use Rattle.table.specs.declared.ObjectRecord.{ObjectRecord}
-use Rattle.table.specs.Records.{objectRecord}
+use Rattle.table.specs.Records.{mostQueued, objectRecord}
 use Rattle.table.specs.Check.{Shape, isSent, wrongIpdu, wrongAlone, depths, pastDepth, overlapsLower, wrongObject}
 use Rattle.table.specs.Masks.{RightAlone, Placed, clear, claimed, Ended}
 use Rattle.table.proofs.Facts.{placed}
@@ -23,7 +23,7 @@ use Rattle.table.proofs.Overlaps.{usedAfter, used-start, used-next, fre
 pub record Passed (t : List ℕ) (c : Counts) (used : List ℕ) (depth i : ℕ) : Type 0 where
   pub within : i ≤ c .objects
   pub sum : depth ≡ depths t c i
-  pub low : depth ≤ 512
+  pub low : depth ≤ mostQueued
   pub alone : (j : ℕ) → j < i → (wrongAlone t c j || pastDepth t c j) ≡ false
   pub words : used ≡ usedAfter t (c .ipdus) i
   pub free : (j : ℕ) → j < i → clear (usedAfter t (c .ipdus) j) (objectRecord t (c .ipdus) j) ≡ true
@@ -60,7 +60,7 @@ module _ (t : List ℕ) (c : Counts) (shape : Shape t c) (ipdus : (k : ℕ) → 
         i (le-refl (suc i)) (rw here at sent))
 
     pub passed-next : i < c .objects → (wrongAlone t c i || pastDepth t c i) ≡ false → (r : ObjectRecord) → r ≡ objectRecord t (c .ipdus) i
-        → depth + r .depth ≡ depths t c (i + 1) → depth + r .depth ≤ 512 → clear used r ≡ true
+        → depth + r .depth ≡ depths t c (i + 1) → depth + r .depth ≤ mostQueued → clear used r ≡ true
         → Passed t c (claimed used r) (depth + r .depth) (i + 1)
     passed-next h right r here sum low free =
         record {

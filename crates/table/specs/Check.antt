@@ -13,7 +13,7 @@ use Rattle.table.specs.declared.IpduRecord.{IpduRecord}
 use Rattle.table.specs.declared.ObjectRecord.{ObjectRecord}
 use Rattle.table.specs.declared.Verdict.{Verdict}
 use Rattle.table.specs.declared.Verdict.the-variants.{Accepted, WrongHeader, WrongIpdu, WrongObject}
-use Rattle.table.specs.Records.{mostIpdus, mostObjects, mostQueued, absent, tableLength, counts, ipduRecord, objectRecord}
+use Rattle.table.specs.Records.{sending, mostIpdus, mostObjects, mostQueued, absent, tableLength, counts, ipduRecord, objectRecord}
 use Rattle.table.specs.Rules.{headerRight, ipduRight, references, orderOf, objectRight}
 
 -- a table whose header is right has this shape
@@ -38,7 +38,7 @@ ownsBit r p = owns (orderOf (r .order)) (r .start) (r .size) p
 
 -- a send object with an I-PDU
 abbrev pub isSent : ObjectRecord → Bool
-isSent r = eqb (r .kind) 1 && not (eqb (r .ipdu) absent)
+isSent r = eqb (r .kind) sending && not (eqb (r .ipdu) absent)
 
 -- two send objects share a bit of an I-PDU
 unfoldable pub shareBit : ObjectRecord → ObjectRecord → Bool

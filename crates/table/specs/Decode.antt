@@ -19,7 +19,7 @@ use Rattle.table.specs.declared.Ipdu.{Ipdu}
 use Rattle.table.specs.declared.Object.{Object}
 use Rattle.table.specs.declared.IpduRecord.{IpduRecord}
 use Rattle.table.specs.declared.ObjectRecord.{ObjectRecord}
-use Rattle.table.specs.Records.{counts, ipduRecord, objectRecord}
+use Rattle.table.specs.Records.{mostQueued, counts, ipduRecord, objectRecord}
 use Rattle.table.specs.Rules.{headerRight, ipduRight, orderOf, references, objectRight}
 use Rattle.table.specs.Check.{Shape, overlapsLower, depths}
 
@@ -72,4 +72,4 @@ pub record Right (t : List ℕ) (c : Counts) : Type 0 where
   pub ipdus : (k : ℕ) → k < c .ipdus → ipduRight (ipduRecord t k) ≡ true
   pub objects : (i : ℕ) → i < c .objects → objectRight (objectRecord t (c .ipdus) i) (references t c (objectRecord t (c .ipdus) i)) ≡ true
   pub apart : (i : ℕ) → i < c .objects → overlapsLower t (c .ipdus) i ≡ false
-  pub depth : depths t c (c .objects) ≤ 512
+  pub depth : depths t c (c .objects) ≤ mostQueued

@@ -17,6 +17,13 @@ mostObjects = 128
 abbrev pub mostQueued : ℕ
 mostQueued = 512
 
+-- the kind of a send object and the direction of a send I-PDU; of a receive object and a receive I-PDU
+abbrev pub sending : ℕ
+sending = 1
+
+abbrev pub receiving : ℕ
+receiving = 2
+
 -- the number of an I-PDU or a sending object that stands for none
 abbrev pub absent : ℕ
 absent = 255

@@ -15,7 +15,7 @@ use Rattle.table.specs.declared.Counts.{Counts}
 use Rattle.table.specs.declared.IpduRecord.{IpduRecord}
 use Rattle.table.specs.declared.ObjectRecord.{ObjectRecord}
 use Rattle.table.specs.declared.References.{References}
-use Rattle.table.specs.Records.{mostIpdus, mostObjects, absent, ipduBase, objectBase, tableLength, counts, ipduRecord, objectRecord}
+use Rattle.table.specs.Records.{receiving, sending, mostIpdus, mostObjects, absent, ipduBase, objectBase, tableLength, counts, ipduRecord, objectRecord}
 
 -- ---- the header
 
@@ -59,7 +59,7 @@ abbrev pub ipduBytes : IpduRecord → Bool
 ipduBytes r = leb 1 (r .length) && leb (r .length) 8 && leb (r .mode) 2 && eqb (r .«zero_3») 0 && eqb (r .«zero_14») 0
 
 unfoldable pub ipduRight : IpduRecord → Bool
-ipduRight r = ipduBytes r && (eqb (r .direction) 1 && sendIpdu r || eqb (r .direction) 2 && receiveIpdu r)
+ipduRight r = ipduBytes r && (eqb (r .direction) sending && sendIpdu r || eqb (r .direction) receiving && receiveIpdu r)
 
 -- ---- an object record: kind 1 send, 2 receive; I-PDU or sending object 255 for none; order 0 little, 1 big
 
@@ -77,11 +77,11 @@ references t c r =
 
 -- a send object has byte 2 = 255 and depth 0
 abbrev pub sendObject : ObjectRecord → Bool
-sendObject r = eqb (r .kind) 1 && eqb (r .sender) absent && eqb (r .depth) 0
+sendObject r = eqb (r .kind) sending && eqb (r .sender) absent && eqb (r .depth) 0
 
 -- a receive object has transfer 0 and at most one of I-PDU and sending object
 abbrev pub receiveObject : ObjectRecord → Bool
-receiveObject r = eqb (r .kind) 2 && eqb (r .transfer) 0 && (eqb (r .ipdu) absent || eqb (r .sender) absent)
+receiveObject r = eqb (r .kind) receiving && eqb (r .transfer) 0 && (eqb (r .ipdu) absent || eqb (r .sender) absent)
 
 -- with no I-PDU, start is 0, length 32 and order 0
 abbrev pub withoutIpdu : ObjectRecord → Bool

@@ -28,6 +28,11 @@ pub const MOST_QUEUED: u32 = 512;
 
 pub const NONE: u32 = 255;
 
+// The kind of a send object and the direction of a send I-PDU; of a receive object and a receive I-PDU.
+pub const SENDING: u32 = 1;
+
+pub const RECEIVING: u32 = 2;
+
 // Sizes in bytes: of the header and the records, and of the largest table.
 pub const HEADER_SIZE: usize = 16;
 

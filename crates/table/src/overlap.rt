@@ -3,6 +3,7 @@ use super::Counts;
 use super::NONE;
 use super::ObjectNumber;
 use super::ObjectRecord;
+use super::SENDING;
 use bits::BitSize;
 ghost use mathlib.Core.Bool.{true};
 ghost use mathlib.Core.Path.{_≡_};
@@ -70,7 +71,7 @@ fn share_bit(r: ObjectRecord, s: ObjectRecord) -> bool
 fn is_sent(r: ObjectRecord) -> bool
     ensures { λ b. ⌜ b ≡ isSent r ⌝ }
 {
-    (r.kind == 1) & !(r.ipdu == NONE)
+    (r.kind == SENDING) & !(r.ipdu == NONE)
 }
 
 // The bits that the object owns, as a mask of its I-PDU's slot.

@@ -9,7 +9,9 @@ use super::MOST_OBJECTS;
 use super::NONE;
 use super::OBJECT_SIZE;
 use super::ObjectRecord;
+use super::RECEIVING;
 use super::References;
+use super::SENDING;
 use bits::BitSize;
 use bits::ByteLength;
 use bits::Order;
@@ -54,10 +56,10 @@ pub fn ipdu_right(r: IpduRecord) -> bool
     if !ipdu_bytes(r) {
         return false;
     }
-    if r.direction == 1 {
+    if r.direction == SENDING {
         return send_ipdu(r);
     }
-    (r.direction == 2) & receive_ipdu(r)
+    (r.direction == RECEIVING) & receive_ipdu(r)
 }
 
 fn ipdu_bytes(r: IpduRecord) -> bool
@@ -111,7 +113,7 @@ pub fn object_right(r: ObjectRecord, x: References) -> bool
         return false;
     }
     let filter = filter::filter_right(r.filter, r.first, r.second);
-    ((r.sender == NONE) | (x.sender_kind == 1)) & filter
+    ((r.sender == NONE) | (x.sender_kind == SENDING)) & filter
 }
 
 fn bytes_right(r: ObjectRecord) -> bool
@@ -130,10 +132,10 @@ fn bytes_right(r: ObjectRecord) -> bool
 fn kind_right(r: ObjectRecord) -> bool
     ensures { λ b. ⌜ b ≡ (sendObject r || receiveObject r) ⌝ }
 {
-    if r.kind == 1 {
+    if r.kind == SENDING {
         return (r.sender == NONE) & (r.depth == 0);
     }
-    (r.kind == 2) & (r.transfer == 0) & ((r.ipdu == NONE) | (r.sender == NONE))
+    (r.kind == RECEIVING) & (r.transfer == 0) & ((r.ipdu == NONE) | (r.sender == NONE))
 }
 
 fn place_right(r: ObjectRecord, x: References) -> bool

@@ -10,7 +10,7 @@ use lib.ListN.{length}
 use Rattle.memory.specs.Search.{pick}
 use Rattle.memory.proofs.Search.{picked}
 use Rattle.table.specs.declared.Counts.{Counts}
-use Rattle.table.specs.Records.{ipduRecord, objectRecord}
+use Rattle.table.specs.Records.{receiving, sending, ipduRecord, objectRecord}
 use Rattle.state.specs.Layout.{objectState, ipduState}
 use Rattle.message.specs.Objects.{object, passesFilter, oldest, dequeue}
 use Rattle.message.specs.Delivery.{deliverInside}
@@ -45,7 +45,7 @@ module _ (t : List ℕ) (c : Counts) (m : List ℕ) where
   unfolding sendIn sendOf request
   send-answered i v area =
       let call = send i v area in
-      either call m area (isObject t c 1 i) _ _
+      either call m area (isObject t c sending i) _ _
       (either call m area (passesFilter (object t c i) v (objectState (deliverInside t c i v m) i)) _ _
       (either call m area (wants t (object t c i)) _ _ (did call m area _ _ _) (did call m area 0 _ area))
       (did call m area 0 _ area))
@@ -66,7 +66,7 @@ module _ (t : List ℕ) (c : Counts) (m : List ℕ) where
   unfolding receiveIn
   receive-answered i =
       let call = receive i in
-      either call m [] (isObject t c 2 i) _ _
+      either call m [] (isObject t c receiving i) _ _
       (either call m [] (eqb (objectRecord t (c .ipdus) i .depth) 0) _ _ (did call m [] _ _ _)
       (either call m [] (eqb (objectState m i .count) 0) _ _ (as-found call m [] NoMessage (λ e. omega (arith, e)))
       (limited-answered i (oldest (objectRecord t (c .ipdus) i .depth) i m) (dequeue (objectRecord t (c .ipdus) i .depth) i m) (eqb (objectState m i .overflow) 0))))
@@ -81,7 +81,7 @@ module _ (t : List ℕ) (c : Counts) (m : List ℕ) where
   unfolding statusIn
   status-answered i =
       let call = status i in
-      either call m [] (isObject t c 2 i && not (eqb (objectRecord t (c .ipdus) i .depth) 0)) _ _
+      either call m [] (isObject t c receiving i && not (eqb (objectRecord t (c .ipdus) i .depth) 0)) _ _
       (as-found call m [] _ (status-six (eqb (objectState m i .count) 0) (eqb (objectState m i .overflow) 0)))
       (wrong-id call m [])
 
@@ -101,17 +101,17 @@ module _ (t : List ℕ) (c : Counts) (m : List ℕ) where
   unfolding indicationIn
   indication-answered k true bytes =
       let call = indication k true bytes in
-      either call m [] (isIpdu t c 2 k) _ _
+      either call m [] (isIpdu t c receiving k) _ _
       (either call m [] (eqb (length bytes) (ipduRecord t k .length)) _ _ (did call m [] 0 _ _) (as-found call m [] WrongLength (λ e. omega (arith, e))))
       (wrong-id call m [])
   indication-answered k false bytes =
       let call = indication k false bytes in
-      either call m [] (isIpdu t c 2 k) _ _ (did call m [] 0 _ _) (wrong-id call m [])
+      either call m [] (isIpdu t c receiving k) _ _ (did call m [] 0 _ _) (wrong-id call m [])
 
   pub confirm-answered : (k : ℕ) (good : Bool) → Answered (confirm k good) m [] (confirmIn t c k good m)
   unfolding confirmIn
   confirm-answered k good =
       let call = confirm k good in
-      either call m [] (isIpdu t c 1 k) _ _
+      either call m [] (isIpdu t c sending k) _ _
       (either call m [] (eqb (ipduState m k .requested) 0) _ _ (as-found call m [] NotRequested (λ e. omega (arith, e))) (did call m [] 0 _ _))
       (wrong-id call m [])

@@ -16,7 +16,7 @@ use Rattle.bits.specs.declared.Order.{Order}
 use Rattle.bits.specs.Bits.{room, unpacked}
 use Rattle.bits.proofs.RoundTrip.{unpacked-front}
 use Rattle.table.specs.declared.Counts.{Counts}
-use Rattle.table.specs.Records.{absent, counts, ipduRecord, objectRecord}
+use Rattle.table.specs.Records.{receiving, sending, absent, counts, ipduRecord, objectRecord}
 use Rattle.table.specs.Rules.{orderOf}
 use Rattle.table.specs.Decode.{objectOf}
 use Rattle.table.proofs.Accepted.{usable}
@@ -102,16 +102,16 @@ module _ (t : List ℕ) (c : Counts) (m : List ℕ) (ready : Ready t c m) (j : �
       (λ at w high.
       ipdu-part delivery k (timerSet (ipdu t k) (ipduState delivery k)) (omega (arith, below, delivery-ready .long)) at w (inr (omega (arith, below, high))))
 
-  indicated : objectRecord t (c .ipdus) j .kind ≡ 2
+  indicated : objectRecord t (c .ipdus) j .kind ≡ receiving
       → indicationIn t c (objectRecord t (c .ipdus) j .ipdu) true f m .memory ≡ timed t (objectRecord t (c .ipdus) j .ipdu) delivery
   unfolding indicationIn
   indicated kind =
       let k = objectRecord t (c .ipdus) j .ipdu in
-      let two : ipduRecord t k .direction ≡ 2 = usable t c (ready .right) j low .ipdu some .1 ∙ kind in
+      let two : ipduRecord t k .direction ≡ receiving = usable t c (ready .right) j low .ipdu some .1 ∙ kind in
       rw (lt-ltb k (c .ipdus) in-table, two, eq-eqb (length f) (ipduRecord t k .length) long)
 
   -- the object gets its bits of the frame
-  frame-reached : objectRecord t (c .ipdus) j .kind ≡ 2 → passesFilter (object t c j) (readingIn (objectRecord t (c .ipdus) j) f) (objectState m j) ≡ true
+  frame-reached : objectRecord t (c .ipdus) j .kind ≡ receiving → passesFilter (object t c j) (readingIn (objectRecord t (c .ipdus) j) f) (objectState m j) ≡ true
       → Reached t c j low (readingIn (objectRecord t (c .ipdus) j) f) m (indicationIn t c (objectRecord t (c .ipdus) j .ipdu) true f m .memory)
   frame-reached kind passes =
       let k = objectRecord t (c .ipdus) j .ipdu in
@@ -139,7 +139,7 @@ indication-arrives t bt calls m r f bytes j in-table long x =
 
 -- ---- internal delivery
 
-module _ (t : List ℕ) (c : Counts) (m : List ℕ) (ready : Ready t c m) (i : ℕ) (is : isObject t c 1 i ≡ true) (v : ℕ) (small : v < 2 ^ 32)
+module _ (t : List ℕ) (c : Counts) (m : List ℕ) (ready : Ready t c m) (i : ℕ) (is : isObject t c sending i ≡ true) (v : ℕ) (small : v < 2 ^ 32)
     (area : List ℕ) (j : ℕ) (low : j < c .objects) (ne : j ≡ i → ⊥) where
   -- after it a send changes nothing of another object
   sent-still : Still t c j low (deliverInside t c i v m) (sendIn t c i v area m .memory)
@@ -186,6 +186,6 @@ inside-arrives t bt calls m r i j v area small long is from x =
   where
     other : j ≡ i → ⊥
     other e =
-        let one : objectRecord t (counts t .ipdus) i .kind ≡ 1 = object-kind t (counts t) 1 i is in
-        let two : objectRecord t (counts t .ipdus) i .kind ≡ 2 = rw e at (x .kind) in
+        let one : objectRecord t (counts t .ipdus) i .kind ≡ sending = object-kind t (counts t) 1 i is in
+        let two : objectRecord t (counts t .ipdus) i .kind ≡ receiving = rw e at (x .kind) in
         omega (arith, one, two)

@@ -15,7 +15,7 @@ use Rattle.memory.proofs.Search.{picked, fold-keeps}
 use Rattle.memory.proofs.Tests.{and-split, or-cases}
 use Rattle.table.specs.declared.Counts.{Counts}
 use Rattle.table.specs.declared.ObjectRecord.{ObjectRecord}
-use Rattle.table.specs.Records.{absent, ipduRecord, objectRecord}
+use Rattle.table.specs.Records.{receiving, sending, absent, ipduRecord, objectRecord}
 use Rattle.table.specs.Rules.{references, sendObject, receiveObject}
 use Rattle.table.specs.Check.{depths}
 use Rattle.table.specs.Decode.{objectOf, Right}
@@ -44,13 +44,13 @@ use Rattle.trace.proofs.Refines.{Same, same-refl, same-trans, same-obje
 send-sender : (r : ObjectRecord) → sendObject r ≡ true → r .sender ≡ 255
 send-sender r e =
     eqb-true (r .sender) 255
-    (and-split (eqb (r .kind) 1) (eqb (r .sender) absent) (and-split (eqb (r .kind) 1 && eqb (r .sender) absent) (eqb (r .depth) 0) e .0) .1)
+    (and-split (eqb (r .kind) sending) (eqb (r .sender) absent) (and-split (eqb (r .kind) sending && eqb (r .sender) absent) (eqb (r .depth) 0) e .0) .1)
 
-receive-kind : (r : ObjectRecord) → receiveObject r ≡ true → r .kind ≡ 2
+receive-kind : (r : ObjectRecord) → receiveObject r ≡ true → r .kind ≡ receiving
 receive-kind r e =
-    eqb-true (r .kind) 2
-    (and-split (eqb (r .kind) 2) (eqb (r .transfer) 0)
-    (and-split (eqb (r .kind) 2 && eqb (r .transfer) 0) (eqb (r .ipdu) absent || eqb (r .sender) absent) e .0) .0)
+    eqb-true (r .kind) receiving
+    (and-split (eqb (r .kind) receiving) (eqb (r .transfer) 0)
+    (and-split (eqb (r .kind) receiving && eqb (r .transfer) 0) (eqb (r .ipdu) absent || eqb (r .sender) absent) e .0) .0)
 
 module _ (t : List ℕ) (c : Counts) (right : Right t c) (i : ℕ) (h : i < c .objects) where
   kinds : (sendObject (objectRecord t (c .ipdus) i) ≡ true) ⊎ (receiveObject (objectRecord t (c .ipdus) i) ≡ true)
@@ -58,14 +58,14 @@ module _ (t : List ℕ) (c : Counts) (right : Right t c) (i : ℕ) (h : i < c .o
       or-cases (sendObject (objectRecord t (c .ipdus) i)) (receiveObject (objectRecord t (c .ipdus) i))
       (object-facts (objectRecord t (c .ipdus) i) (references t c (objectRecord t (c .ipdus) i)) (right .objects i h) .kinds)
 
-  pub send-no-sender : objectRecord t (c .ipdus) i .kind ≡ 1 → objectRecord t (c .ipdus) i .sender ≡ 255
+  pub send-no-sender : objectRecord t (c .ipdus) i .kind ≡ sending → objectRecord t (c .ipdus) i .sender ≡ 255
   send-no-sender one =
       ⊎-elim
       (λ (e : sendObject (objectRecord t (c .ipdus) i) ≡ true). send-sender (objectRecord t (c .ipdus) i) e)
       (λ (e : receiveObject (objectRecord t (c .ipdus) i) ≡ true). absurd (omega (arith, one, receive-kind (objectRecord t (c .ipdus) i) e)))
       kinds
 
-  pub sender-received : objectRecord t (c .ipdus) i .sender < 255 → objectRecord t (c .ipdus) i .kind ≡ 2
+  pub sender-received : objectRecord t (c .ipdus) i .sender < 255 → objectRecord t (c .ipdus) i .kind ≡ receiving
   sender-received low =
       ⊎-elim
       (λ (e : sendObject (objectRecord t (c .ipdus) i) ≡ true). absurd (omega (arith, low, send-sender (objectRecord t (c .ipdus) i) e)))
@@ -94,13 +94,13 @@ module _ (t : List ℕ) (c : Counts) where
   -- the row of an object that is not sent, or keeps old and count
   pub unchanged-object : (j : ℕ) → j < c .objects → (s : ObjectState) (m : List ℕ) → Ready t c m
       → ObjectKept (objectRecord t (c .ipdus) j .depth) (depths t c j) s
-      → (objectRecord t (c .ipdus) j .kind ≡ 1 → s .old ≡ objectState m j .old)
-      → (objectRecord t (c .ipdus) j .kind ≡ 1 → s .occurrence ≡ objectState m j .occurrence) → BookUnchanged m (withObjectState m j s)
+      → (objectRecord t (c .ipdus) j .kind ≡ sending → s .old ≡ objectState m j .old)
+      → (objectRecord t (c .ipdus) j .kind ≡ sending → s .occurrence ≡ objectState m j .occurrence) → BookUnchanged m (withObjectState m j s)
   unchanged-object j h s m ready kept old count =
       record { ready = ready-object t c m ready j h s kept; same = same-object t c m ready j h s kept old count }
 
   -- a delivery to an object that is not sent
-  unchanged-deliver : (i v : ℕ) → i < c .objects → (objectRecord t (c .ipdus) i .kind ≡ 1 → ⊥) → v < 2 ^ 32 → (m : List ℕ) → Ready t c m
+  unchanged-deliver : (i v : ℕ) → i < c .objects → (objectRecord t (c .ipdus) i .kind ≡ sending → ⊥) → v < 2 ^ 32 → (m : List ℕ) → Ready t c m
       → BookUnchanged m (deliver (object t c i) i v m)
   unfolding deliver objectOf
   unchanged-deliver i v h received small m ready =
@@ -142,7 +142,7 @@ module _ (t : List ℕ) (c : Counts) where
       (λ one. omega (arith, send-no-sender t c (r .right) j b one, eqb-true (objectRecord t (c .ipdus) j .sender) i e, h, r .right .shape .objects)) small l r))
 
   -- delivery of a frame of a receive I-PDU
-  pub unchanged-frame : (k : ℕ) → k < c .ipdus → ipduRecord t k .direction ≡ 2 → (m : List ℕ) → Ready t c m → BookUnchanged m (deliverFrame t c k m)
+  pub unchanged-frame : (k : ℕ) → k < c .ipdus → ipduRecord t k .direction ≡ receiving → (m : List ℕ) → Ready t c m → BookUnchanged m (deliverFrame t c k m)
   unfolding deliverFrame
   unchanged-frame k h two =
       unchanged-fold (c .objects) (frameTurn t c k)
@@ -150,12 +150,12 @@ module _ (t : List ℕ) (c : Counts) where
       unchanged-pick (eqb (objectRecord t (c .ipdus) j .ipdu) k) l (deliver (object t c j) j (unpack (object t c j) l) l) r
       (λ e. unchanged-deliver j (unpack (object t c j) l) b (received j b l r (eqb-true (objectRecord t (c .ipdus) j .ipdu) k e)) (unpack-lt t c l r j b) l r))
     where
-      received : (j : ℕ) → j < c .objects → (l : List ℕ) → Ready t c l → objectRecord t (c .ipdus) j .ipdu ≡ k → objectRecord t (c .ipdus) j .kind ≡ 1 → ⊥
+      received : (j : ℕ) → j < c .objects → (l : List ℕ) → Ready t c l → objectRecord t (c .ipdus) j .ipdu ≡ k → objectRecord t (c .ipdus) j .kind ≡ sending → ⊥
       received j b l r e one =
           let some : eqb (objectRecord t (c .ipdus) j .ipdu) absent ≡ false =
           ne-eqb (objectRecord t (c .ipdus) j .ipdu) absent (λ z. absurd (omega (arith, z, e, h, r .right .shape .ipdus))) in
           let direction : ipduRecord t (objectRecord t (c .ipdus) j .ipdu) .direction ≡ objectRecord t (c .ipdus) j .kind = usable t c (r .right) j b .ipdu some .1 in
-          let there : ipduRecord t (objectRecord t (c .ipdus) j .ipdu) .direction ≡ 2 = ap (λ (n : ℕ). ipduRecord t n .direction) e ∙ two in
+          let there : ipduRecord t (objectRecord t (c .ipdus) j .ipdu) .direction ≡ receiving = ap (λ (n : ℕ). ipduRecord t n .direction) e ∙ two in
           omega (arith, direction, there, one)
 
   -- marks
@@ -179,13 +179,13 @@ module _ (t : List ℕ) (c : Counts) where
   unchanged-send k h d s m ready kept = unchanged-ipdu k h s m ready (ready-send t c m ready k h d s kept)
 
   -- a request that a send wants, made or postponed
-  pub unchanged-request : (i : ℕ) → isObject t c 1 i ≡ true → (area m : List ℕ) → Ready t c m → BookUnchanged m (request t (object t c i) area m .memory)
+  pub unchanged-request : (i : ℕ) → isObject t c sending i ≡ true → (area m : List ℕ) → Ready t c m → BookUnchanged m (request t (object t c i) area m .memory)
   unfolding request objectOf
   unchanged-request i is area m ready =
       picked (λ (o : Outcome). BookUnchanged m (o .memory)) (wants t (object t c i)) _ _
       (λ w.
-      let here = usable t c (ready .right) i (object-there t c 1 i is) .ipdu (wants-some t (object t c i) w) in
-      let d = ipdu-sends t (objectRecord t (c .ipdus) i .ipdu) (here .1 ∙ object-kind t c 1 i is) in
+      let here = usable t c (ready .right) i (object-there t c sending i is) .ipdu (wants-some t (object t c i) w) in
+      let d = ipdu-sends t (objectRecord t (c .ipdus) i .ipdu) (here .1 ∙ object-kind t c sending i is) in
       unchanged-send (objectRecord t (c .ipdus) i .ipdu) (here .0) d
       (afterRequest (ipdu t (objectRecord t (c .ipdus) i .ipdu)) (withWanted 1 (ipduState m (objectRecord t (c .ipdus) i .ipdu)))) m ready
       (kept-offered (ipdu t (objectRecord t (c .ipdus) i .ipdu)) (withWanted 1 (ipduState m (objectRecord t (c .ipdus) i .ipdu)))

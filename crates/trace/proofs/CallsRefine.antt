@@ -17,7 +17,7 @@ use Rattle.memory.proofs.Tests.{true-or-false}
 use Rattle.table.specs.declared.Counts.{Counts}
 use Rattle.table.specs.declared.Direction.{Direction}
 use Rattle.table.specs.declared.Direction.the-variants.{Send, Receive}
-use Rattle.table.specs.Records.{ipduRecord, objectRecord}
+use Rattle.table.specs.Records.{receiving, sending, ipduRecord, objectRecord}
 use Rattle.table.specs.Check.{depths}
 use Rattle.table.specs.Decode.{ipduOf}
 use Rattle.state.specs.declared.ObjectState.{ObjectState}
@@ -47,13 +47,13 @@ module _ (t : List ℕ) (c : Counts) where
     own : ObjectKept (objectRecord t (c .ipdus) i .depth) (depths t c i) (objectState m i)
     own = ready-kept t c m (a .ready) i h
 
-    initialise-send : objectRecord t (c .ipdus) i .kind ≡ 1
+    initialise-send : objectRecord t (c .ipdus) i .kind ≡ sending
         → Refines t c (record { entries = enter i v (b .entries); counts = b .counts; stopped = b .stopped }) (initialiseAs Send (object t c i) i v m)
     initialise-send one =
         refines-entry t c b m a i h v (withOld v (objectState m i)) (kept-old (objectRecord t (c .ipdus) i .depth) (depths t c i) v (objectState m i) small own) (b .counts) refl
         (a .count i h one) (λ j ne. refl)
 
-    initialise-receive : (objectRecord t (c .ipdus) i .kind ≡ 1 → ⊥) → Refines t c b (initialiseAs Receive (object t c i) i v m)
+    initialise-receive : (objectRecord t (c .ipdus) i .kind ≡ sending → ⊥) → Refines t c b (initialiseAs Receive (object t c i) i v m)
     initialise-receive received =
         let kept =
         kept-old (objectRecord t (c .ipdus) i .depth) (depths t c i) v (withValue v (withQueue 0 0 0 (objectState m i))) small
@@ -76,9 +76,9 @@ module _ (t : List ℕ) (c : Counts) where
       (λ (e : ltb i (c .objects) ≡ true).
       let h = ltb-true i (c .objects) e in
       ⊎-elim
-      (λ (k : eqb (objectRecord t (c .ipdus) i .kind) 1 ≡ true). rw (e, k) (by-direction _ m i v Send (object-sends t c i k) (initialise-send b m a i v small h (eqb-true (objectRecord t (c .ipdus) i .kind) 1 k))))
-      (λ (k : eqb (objectRecord t (c .ipdus) i .kind) 1 ≡ false). rw (e, k) (by-direction b m i v Receive (object-receives t c i k) (initialise-receive b m a i v small h (eqb-false (objectRecord t (c .ipdus) i .kind) 1 k))))
-      (true-or-false (eqb (objectRecord t (c .ipdus) i .kind) 1)))
+      (λ (k : eqb (objectRecord t (c .ipdus) i .kind) sending ≡ true). rw (e, k) (by-direction _ m i v Send (object-sends t c i k) (initialise-send b m a i v small h (eqb-true (objectRecord t (c .ipdus) i .kind) sending k))))
+      (λ (k : eqb (objectRecord t (c .ipdus) i .kind) sending ≡ false). rw (e, k) (by-direction b m i v Receive (object-receives t c i k) (initialise-receive b m a i v small h (eqb-false (objectRecord t (c .ipdus) i .kind) sending k))))
+      (true-or-false (eqb (objectRecord t (c .ipdus) i .kind) sending)))
       (λ (e : ltb i (c .objects) ≡ false). rw e a)
       (true-or-false (ltb i (c .objects)))
 
@@ -92,15 +92,15 @@ module _ (t : List ℕ) (c : Counts) where
     as-found = unchanged-refl t c m ready
 
     -- a value taken from a queue of a receive object
-    unchanged-take : (i : ℕ) → isObject t c 2 i ≡ true → eqb (objectRecord t (c .ipdus) i .depth) 0 ≡ false
+    unchanged-take : (i : ℕ) → isObject t c receiving i ≡ true → eqb (objectRecord t (c .ipdus) i .depth) 0 ≡ false
         → BookUnchanged t c m (dequeue (objectRecord t (c .ipdus) i .depth) i m)
     unfolding dequeue
     unchanged-take i is some =
-        let h = object-there t c 2 i is in
+        let h = object-there t c receiving i is in
         let kept = ready-kept t c m ready i h in
         let deep : objectRecord t (c .ipdus) i .depth ≡ 0 → ⊥ = eqb-false (objectRecord t (c .ipdus) i .depth) 0 some in
         let low = around-lt (objectRecord t (c .ipdus) i .depth) (objectState m i .head + 1) (omega (arith, deep, kept .head)) in
-        let two = object-kind t c 2 i is in
+        let two = object-kind t c receiving i is in
         unchanged-object t c i h (withQueue 0 (around (objectRecord t (c .ipdus) i .depth) (objectState m i .head + 1)) (objectState m i .count - 1) (objectState m i)) m ready
         (kept-queue (objectRecord t (c .ipdus) i .depth) (depths t c i) 0 (around (objectRecord t (c .ipdus) i .depth) (objectState m i .head + 1)) (objectState m i .count - 1)
         (objectState m i) (omega arith) (omega (arith, kept .count)) (omega (arith, low)) kept)
@@ -109,7 +109,7 @@ module _ (t : List ℕ) (c : Counts) where
     pub unchanged-receive : (i : ℕ) → BookUnchanged t c m (receiveIn t c i m .memory)
     unfolding receiveIn
     unchanged-receive i =
-        pick-unchanged (isObject t c 2 i) m _ _
+        pick-unchanged (isObject t c receiving i) m _ _
         (λ is.
         ⊎-elim
         (λ (e : eqb (objectRecord t (c .ipdus) i .depth) 0 ≡ true). rw e as-found)
@@ -119,7 +119,7 @@ module _ (t : List ℕ) (c : Counts) where
 
     pub unchanged-status : (i : ℕ) → BookUnchanged t c m (statusIn t c i m .memory)
     unfolding statusIn
-    unchanged-status i = pick-unchanged (isObject t c 2 i && not (eqb (objectRecord t (c .ipdus) i .depth) 0)) m _ _ (λ e. as-found) as-found
+    unchanged-status i = pick-unchanged (isObject t c receiving i && not (eqb (objectRecord t (c .ipdus) i .depth) 0)) m _ _ (λ e. as-found) as-found
 
     pub unchanged-marks : (i : ℕ) → BookUnchanged t c m (marksIn c i m .memory)
     unfolding marksIn
@@ -141,12 +141,12 @@ module _ (t : List ℕ) (c : Counts) where
 
     pub unchanged-indication : (k : ℕ) (good : Bool) (f : List ℕ) → Bytes f → BookUnchanged t c m (indicationIn t c k good f m .memory)
     unfolding indicationIn ipduOf
-    unchanged-indication k false f bytes = pick-unchanged (isIpdu t c 2 k) m _ _ (λ e. unchanged-mark t c k 4 (omega arith) m ready) as-found
+    unchanged-indication k false f bytes = pick-unchanged (isIpdu t c receiving k) m _ _ (λ e. unchanged-mark t c k 4 (omega arith) m ready) as-found
     unchanged-indication k true f bytes =
-        pick-unchanged (isIpdu t c 2 k) m _ _
+        pick-unchanged (isIpdu t c receiving k) m _ _
         (λ e.
-        let low = ipdu-there t c 2 k e in
-        let two = ipdu-direction t c 2 k e in
+        let low = ipdu-there t c receiving k e in
+        let two = ipdu-direction t c receiving k e in
         pick-unchanged (eqb (length f) (ipduRecord t k .length)) m _ _
         (λ same.
         let size : length f ≤ 8 = omega (arith, eqb-true (length f) (ipduRecord t k .length) same, ipdu-short t c (ready .right) k low) in
@@ -166,10 +166,10 @@ module _ (t : List ℕ) (c : Counts) where
     pub unchanged-confirm : (k : ℕ) (good : Bool) → BookUnchanged t c m (confirmIn t c k good m .memory)
     unfolding confirmIn ipduOf
     unchanged-confirm k good =
-        pick-unchanged (isIpdu t c 1 k) m _ _
+        pick-unchanged (isIpdu t c sending k) m _ _
         (λ e.
-        let low = ipdu-there t c 1 k e in
-        let one = ipdu-direction t c 1 k e in
+        let low = ipdu-there t c sending k e in
+        let one = ipdu-direction t c sending k e in
         let d = ipdu-sends t k one in
         let closed =
         unchanged-send t c k low d (confirmed good (ipdu t k) (ipduState m k)) m ready

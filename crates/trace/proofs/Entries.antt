@@ -15,7 +15,7 @@ use Rattle.memory.specs.Search.{fold}
 use Rattle.memory.proofs.Search.{picked}
 use Rattle.memory.proofs.Tests.{and-split, eq-or-ne, true-or-false, true-not-false}
 use Rattle.table.specs.declared.Counts.{Counts}
-use Rattle.table.specs.Records.{objectRecord}
+use Rattle.table.specs.Records.{sending, objectRecord}
 use Rattle.layer.specs.Step.{Call, Told, toldStart, toldStop, toldSend, toldInitialise, toldNothing, lentBytes, describe}
 use Rattle.state.specs.Layout.{areaSize}
 use Rattle.trace.specs.Book.{Entry, Book, enter, sends, openEntry, opened, keeps, accepts, entered, advance, bookAfter, ownsIpduBit, messageBit, bookBit}
@@ -48,13 +48,13 @@ module _ (t : List ℕ) (c : Counts) where
 
   -- the entries of the objects below n
   record Below (n : ℕ) (es : List Entry) : Type 0 where
-    each : (i : ℕ) → i < n → eqb (objectRecord t (c .ipdus) i .kind) 1 ≡ true → has i es ≡ true
+    each : (i : ℕ) → i < n → eqb (objectRecord t (c .ipdus) i .kind) sending ≡ true → has i es ≡ true
     only : AllSent es
 
   below-next : (n : ℕ) → n < c .objects → (es : List Entry) → Below n es → Below (suc n) (openEntry t c n es)
   below-next n h es b =
       ⊎-elim
-      (λ (y : eqb (objectRecord t (c .ipdus) n .kind) 1 ≡ true).
+      (λ (y : eqb (objectRecord t (c .ipdus) n .kind) sending ≡ true).
       rw y
       (record {
         each = λ i low k.
@@ -64,7 +64,7 @@ module _ (t : List ℕ) (c : Counts) where
             (eq-or-ne i n);
         only = (rw (lt-ltb n (c .objects) h) y, b .only);
       }))
-      (λ (z : eqb (objectRecord t (c .ipdus) n .kind) 1 ≡ false).
+      (λ (z : eqb (objectRecord t (c .ipdus) n .kind) sending ≡ false).
       rw z
       (record {
         each = λ i low k.
@@ -74,7 +74,7 @@ module _ (t : List ℕ) (c : Counts) where
             (eq-or-ne i n);
         only = b .only;
       }))
-      (true-or-false (eqb (objectRecord t (c .ipdus) n .kind) 1))
+      (true-or-false (eqb (objectRecord t (c .ipdus) n .kind) sending))
 
   below : (n : ℕ) → n ≤ c .objects → Below n (fold n (openEntry t c) [])
   below zero h = record { each = λ i low. absurd (not-suc-le-zero low); only = tt }
@@ -85,7 +85,7 @@ module _ (t : List ℕ) (c : Counts) where
       let b = below (c .objects) (omega arith) in
       record {
         each = λ i s.
-            let z = and-split (ltb i (c .objects)) (eqb (objectRecord t (c .ipdus) i .kind) 1) s in
+            let z = and-split (ltb i (c .objects)) (eqb (objectRecord t (c .ipdus) i .kind) sending) s in
             b .each i (ltb-true i (c .objects) (z .0)) (z .1);
         only = b .only;
       }

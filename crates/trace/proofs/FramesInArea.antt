@@ -13,11 +13,11 @@ use Rattle.memory.proofs.Parts.{part-front}
 use Rattle.memory.proofs.Tests.{true-or-false}
 use Rattle.bits.proofs.Numbers.{bit-of-zero, bit-added}
 use Rattle.table.specs.declared.Counts.{Counts}
-use Rattle.table.specs.Records.{ipduRecord, objectRecord}
+use Rattle.table.specs.Records.{mostIpdus, sending, ipduRecord, objectRecord}
 use Rattle.table.specs.Decode.{ipduOf, objectOf, Right}
 use Rattle.table.proofs.Accepted.{Usable, usable}
 use Rattle.state.specs.declared.IpduState.{IpduState}
-use Rattle.state.specs.Layout.{memorySize, slotAt, ipduState, areaSize}
+use Rattle.state.specs.Layout.{slots, memorySize, slotAt, ipduState, areaSize}
 use Rattle.message.specs.Objects.{object}
 use Rattle.state.specs.Updates.{withWanted}
 use Rattle.transmission.specs.Requests.{ipdu, isDue, copiedToArea}
@@ -33,12 +33,12 @@ in-area-none k e = omega (arith, e, bit-of-zero k)
 
 module _ (t : List ℕ) (c : Counts) where
   pub record FramesInArea (word : ℕ) (area m : List ℕ) : Type 0 where
-    pub named : (k : ℕ) → names word k → (k < c .ipdus) × (ipduRecord t k .direction ≡ 1)
+    pub named : (k : ℕ) → names word k → (k < c .ipdus) × (ipduRecord t k .direction ≡ sending)
     pub slot : (k : ℕ) → names word k → part (8 * k) (ipduRecord t k .length) area ≡ part (slotAt k) (ipduRecord t k .length) m
 
   -- the same slots in another memory
   pub in-area-same : (word : ℕ) (area l m : List ℕ) → Right t c → FramesInArea word area l
-      → ((k : ℕ) → k < c .ipdus → ipduRecord t k .direction ≡ 1 → part (slotAt k) 8 m ≡ part (slotAt k) 8 l) → FramesInArea word area m
+      → ((k : ℕ) → k < c .ipdus → ipduRecord t k .direction ≡ sending → part (slotAt k) 8 m ≡ part (slotAt k) 8 l) → FramesInArea word area m
   in-area-same word area l m right x same =
       record {
         named = x .named;
@@ -54,9 +54,9 @@ module _ (t : List ℕ) (c : Counts) where
   -- one I-PDU: quiet, or requested, its bytes those of m
   pub data Tried (k : ℕ) (area m : List ℕ) (o : Outcome) : Type 0 where
     quiet : valueOf (o .answer) ≡ 0 → o .area ≡ area → Tried k area m o
-    requested : ipduRecord t k .direction ≡ 1 → valueOf (o .answer) ≡ 2 ^ k → o .area ≡ copiedToArea (ipduRecord t k .length) k m area → Tried k area m o
+    requested : ipduRecord t k .direction ≡ sending → valueOf (o .answer) ≡ 2 ^ k → o .area ≡ copiedToArea (ipduRecord t k .length) k m area → Tried k area m o
 
-  pub tried-cases : Right t c → (k : ℕ) → k < c .ipdus → ipduRecord t k .direction ≡ 1 → (s : IpduState) (area n m : List ℕ)
+  pub tried-cases : Right t c → (k : ℕ) → k < c .ipdus → ipduRecord t k .direction ≡ sending → (s : IpduState) (area n m : List ℕ)
       → part (slotAt k) 8 n ≡ part (slotAt k) 8 m → Tried k area m (tryRequest (ipdu t k) k s area n)
   unfolding ipduOf
   tried-cases right k h d s area n m e =
@@ -67,18 +67,18 @@ module _ (t : List ℕ) (c : Counts) where
       (true-or-false (isDue (ipdu t k) s))
 
   pub tried-from : Right t c → (k : ℕ) → k < c .ipdus → (area l m : List ℕ) (o : Outcome)
-      → (ipduRecord t k .direction ≡ 1 → part (slotAt k) 8 l ≡ part (slotAt k) 8 m) → Tried k area l o → Tried k area m o
+      → (ipduRecord t k .direction ≡ sending → part (slotAt k) 8 l ≡ part (slotAt k) 8 m) → Tried k area l o → Tried k area m o
   tried-from right k h area l m o same (quiet v a) = quiet v a
   tried-from right k h area l m o same (requested d v a) = requested d v (a ∙ handed-same (ipduRecord t k .length) k l m area (ipdu-short t c right k h) (same d))
 
   -- the request that a passed value wants
-  pub request-tried : Right t c → (i : ℕ) → isObject t c 1 i ≡ true → wants t (object t c i) ≡ true → (area m : List ℕ)
+  pub request-tried : Right t c → (i : ℕ) → isObject t c sending i ≡ true → wants t (object t c i) ≡ true → (area m : List ℕ)
       → Tried (objectRecord t (c .ipdus) i .ipdu) area m (request t (object t c i) area m)
   unfolding request objectOf
   request-tried right i is w area m =
       let k : ℕ = objectRecord t (c .ipdus) i .ipdu in
-      let there = usable t c right i (object-there t c 1 i is) .ipdu (wants-some t (object t c i) w) in
-      rw w (tried-cases right k (there .0) (there .1 ∙ object-kind t c 1 i is) (withWanted 1 (ipduState m k)) area m m refl)
+      let there = usable t c right i (object-there t c sending i is) .ipdu (wants-some t (object t c i) w) in
+      rw w (tried-cases right k (there .0) (there .1 ∙ object-kind t c sending i is) (withWanted 1 (ipduState m k)) area m m refl)
 
   -- ---- one more I-PDU
 
@@ -92,14 +92,14 @@ module _ (t : List ℕ) (c : Counts) where
     few : ipduRecord t n .length ≤ 8
     few = ipdu-short t c right n h
 
-    low : n < 32
+    low : n < mostIpdus
     low = omega (arith, h, right .shape .ipdus)
 
     room : slotAt n + 8 ≤ length m
     room = omega (arith, low, size)
 
     -- it is named itself, or was named before
-    mine : ipduRecord t n .direction ≡ 1 → FramesInArea (w + 2 ^ n) (copiedToArea (ipduRecord t n .length) n m area) m
+    mine : ipduRecord t n .direction ≡ sending → FramesInArea (w + 2 ^ n) (copiedToArea (ipduRecord t n .length) n m area) m
     mine d =
         record {
           named = λ k e. ⊎-elim (λ (y : k ≡ n). rw y (h, d)) (λ (y : (k < n) × names w k). x .named k (y .1)) (bit-added n w k under e);

@@ -14,7 +14,7 @@ use Rattle.memory.specs.Search.{pick}
 use Rattle.memory.proofs.Tests.{true-or-false}
 use Rattle.table.specs.declared.Counts.{Counts}
 use Rattle.table.specs.declared.Verdict.the-variants.{Accepted}
-use Rattle.table.specs.Records.{ipduRecord}
+use Rattle.table.specs.Records.{sending, ipduRecord}
 use Rattle.table.specs.Check.{check}
 use Rattle.table.proofs.Accepted.{accepted-right}
 use Rattle.state.specs.Layout.{memorySize, slotAt, objectState, withObjectState, areaSize}
@@ -122,12 +122,12 @@ module _ (t : List ℕ) (c : Counts) (accepted : check t ≡ Accepted c) (bt : B
     module _ (i v w : ℕ) (small : v < 2 ^ 32) (little : w < 2 ^ 32) (area other : List ℕ) (dropv : keeps t c b i v ≡ false) (dropw : keeps t c b i w ≡ false)
         (none : inside t c i ≡ false) where
       dropped-inner : Inner (sendIn t c i v area (workingMemory m)) (sendIn t c i w other (workingMemory n))
-      dropped-inner = ⊎-elim there missing (true-or-false (isObject t c 1 i))
+      dropped-inner = ⊎-elim there missing (true-or-false (isObject t c sending i))
         where
           size : length (sendIn t c i v area (workingMemory m) .memory) ≡ memorySize
           size = refines-send t c b (workingMemory m) (f .agrees) i v small area .ready .long
 
-          there : isObject t c 1 i ≡ true → Inner (sendIn t c i v area (workingMemory m)) (sendIn t c i w other (workingMemory n))
+          there : isObject t c sending i ≡ true → Inner (sendIn t c i v area (workingMemory m)) (sendIn t c i w other (workingMemory n))
           there is =
               let x = send-dropped t c b (workingMemory m) (f .agrees) i v small area is dropv none in
               let y = send-dropped t c b (workingMemory n) (g .agrees) i w little other is dropw none in
@@ -140,7 +140,7 @@ module _ (t : List ℕ) (c : Counts) (accepted : check t ≡ Accepted c) (bt : B
                 size = size;
               }
 
-          missing : isObject t c 1 i ≡ false → Inner (sendIn t c i v area (workingMemory m)) (sendIn t c i w other (workingMemory n))
+          missing : isObject t c sending i ≡ false → Inner (sendIn t c i v area (workingMemory m)) (sendIn t c i w other (workingMemory n))
           missing out = record { answer = unfold sendIn in rw out; memory = unfold sendIn in rw out alike; size = size }
 
       dropped-same : length area ≡ length other → SameOutcome (step t (send i v area) m) (step t (send i w other) n)

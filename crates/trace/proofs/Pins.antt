@@ -14,7 +14,7 @@ use Rattle.memory.proofs.Tests.{and-split, true-not-false}
 use Rattle.bits.specs.Bits.{bit, frameBit, place, room, number, frameOf, written, packed, unpacked, owns}
 use Rattle.bits.specs.Slots.{position}
 use Rattle.filter.specs.Filters.{passes, filterOf, filterRight}
-use Rattle.table.specs.Records.{counts, ipduRecord, objectRecord}
+use Rattle.table.specs.Records.{sending, counts, ipduRecord, objectRecord}
 use Rattle.table.specs.Rules.{offsetsRight, headerRight, ipduRight, references, objectRight}
 use Rattle.table.specs.Check.{shareBit, overlapsLower, check}
 use Rattle.table.specs.Decode.{ipduOf, objectOf}
@@ -194,7 +194,7 @@ unfolding value bytesOf part numberAt bit place owns passes filterOf counts ipdu
 first-frame = both .0 .1 .0 .bits 0 requested 24 (omega arith)
 
 -- that I-PDU is a send I-PDU of the table
-pub first-named : (0 < counts table .ipdus) × (ipduRecord table 0 .direction ≡ 1)
+pub first-named : (0 < counts table .ipdus) × (ipduRecord table 0 .direction ≡ sending)
 first-named = both .0 .1 .0 .named 0 requested
 
 -- the same frame from other memory and another area, the same answer to the dropped value

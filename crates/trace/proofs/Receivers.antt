@@ -14,7 +14,7 @@ use Rattle.memory.proofs.Tests.{true-or-false}
 use Rattle.bits.specs.Bits.{room}
 use Rattle.table.specs.declared.Counts.{Counts}
 use Rattle.table.specs.declared.Verdict.the-variants.{Accepted}
-use Rattle.table.specs.Records.{counts, objectRecord}
+use Rattle.table.specs.Records.{receiving, counts, objectRecord}
 use Rattle.table.specs.Check.{check}
 use Rattle.table.specs.Decode.{objectOf}
 use Rattle.state.specs.declared.ObjectState.{ObjectState}
@@ -95,13 +95,13 @@ module _ (t m : List ℕ) (l : Live t m) where
 -- ---- receive
 
 -- of an unqueued object
-received : (t : List ℕ) (c : Counts) (m : List ℕ) (j : ℕ) → isObject t c 2 j ≡ true → objectRecord t (c .ipdus) j .depth ≡ 0
+received : (t : List ℕ) (c : Counts) (m : List ℕ) (j : ℕ) → isObject t c receiving j ≡ true → objectRecord t (c .ipdus) j .depth ≡ 0
     → receiveIn t c j m .answer ≡ Done (objectState m j .value)
 unfolding receiveIn
 received t c m j is flat = rw (is, flat)
 
 -- of a queued object where a value waits
-taken : (t : List ℕ) (c : Counts) (m : List ℕ) (j : ℕ) → isObject t c 2 j ≡ true → (objectRecord t (c .ipdus) j .depth ≡ 0 → ⊥)
+taken : (t : List ℕ) (c : Counts) (m : List ℕ) (j : ℕ) → isObject t c receiving j ≡ true → (objectRecord t (c .ipdus) j .depth ≡ 0 → ⊥)
     → (objectState m j .count ≡ 0 → ⊥)
     → receiveIn t c j m
     ≡ outcome (limited (objectState m j) (oldest (objectRecord t (c .ipdus) j .depth) j m)) (dequeue (objectRecord t (c .ipdus) j .depth) j m) []
@@ -117,12 +117,12 @@ limited-gives s v =
     (true-or-false (eqb (s .overflow) 0))
 
 -- there is a receive object of this number
-receives : (t : List ℕ) (c : Counts) (j : ℕ) → j < c .objects → objectRecord t (c .ipdus) j .kind ≡ 2 → isObject t c 2 j ≡ true
+receives : (t : List ℕ) (c : Counts) (j : ℕ) → j < c .objects → objectRecord t (c .ipdus) j .kind ≡ receiving → isObject t c receiving j ≡ true
 receives t c j low kind = rw (lt-ltb j (c .objects) low, kind)
 
 -- a receive of a queued object gives the oldest value that waits, and leaves the others
 pub receive-gives : (t : List ℕ) → Bytes t → (calls : List Call) (m : List ℕ) → Runs t calls m → (j v : ℕ) (vs : List ℕ)
-    → j < counts t .objects → objectRecord t (counts t .ipdus) j .kind ≡ 2 → (objectRecord t (counts t .ipdus) j .depth ≡ 0 → ⊥)
+    → j < counts t .objects → objectRecord t (counts t .ipdus) j .kind ≡ receiving → (objectRecord t (counts t .ipdus) j .depth ≡ 0 → ⊥)
     → waiting (objectRecord t (counts t .ipdus) j .depth) j (workingMemory (memoryOf t calls m)) ≡ v ∷ vs
     → (valueOf (step t (receive j) (memoryOf t calls m) .answer) ≡ v)
     × (waiting (objectRecord t (counts t .ipdus) j .depth) j (workingMemory (step t (receive j) (memoryOf t calls m) .memory)) ≡ vs)

@@ -21,14 +21,14 @@ use Rattle.bits.proofs.Places.{room-slot}
 use Rattle.table.specs.declared.Counts.{Counts}
 use Rattle.table.specs.declared.Object.{Object}
 use Rattle.table.specs.declared.ObjectRecord.{ObjectRecord}
-use Rattle.table.specs.Records.{absent, ipduRecord, objectRecord}
+use Rattle.table.specs.Records.{mostIpdus, sending, absent, ipduRecord, objectRecord}
 use Rattle.table.specs.Rules.{orderOf}
 use Rattle.table.specs.Decode.{objectOf, Right}
 use Rattle.table.proofs.Accepted.{Usable, usable}
 use Rattle.table.proofs.Facts.{IpduFacts, ipdu-facts}
 use Rattle.state.specs.declared.IpduState.{IpduState}
 use Rattle.state.specs.declared.ObjectState.{ObjectState}
-use Rattle.state.specs.Layout.{memorySize, runningAt, withRunning, slotAt, ipduRow, withIpduState, objectRow, objectState, withObjectState}
+use Rattle.state.specs.Layout.{rowSize, queues, slots, memorySize, runningAt, withRunning, slotAt, ipduRow, withIpduState, objectRow, objectState, withObjectState}
 use Rattle.state.specs.Ranges.{Ready}
 use Rattle.state.proofs.RowLaws.{ipdu-part, ipdu-keeps-objects, object-part, object-stored, object-other, object-read}
 use Rattle.state.proofs.Ready.{ObjectKept, kept-fits, object-row, ipdu-row}
@@ -83,9 +83,9 @@ module _ (t : List ℕ) (c : Counts) where
   -- two memories that the book cannot tell apart
   pub record Same (m n : List ℕ) : Type 0 where
     pub running : runningAt n ≡ runningAt m
-    pub old : (i : ℕ) → i < c .objects → objectRecord t (c .ipdus) i .kind ≡ 1 → objectState n i .old ≡ objectState m i .old
-    pub count : (i : ℕ) → i < c .objects → objectRecord t (c .ipdus) i .kind ≡ 1 → objectState n i .occurrence ≡ objectState m i .occurrence
-    pub slot : (k : ℕ) → k < c .ipdus → ipduRecord t k .direction ≡ 1 → part (slotAt k) 8 n ≡ part (slotAt k) 8 m
+    pub old : (i : ℕ) → i < c .objects → objectRecord t (c .ipdus) i .kind ≡ sending → objectState n i .old ≡ objectState m i .old
+    pub count : (i : ℕ) → i < c .objects → objectRecord t (c .ipdus) i .kind ≡ sending → objectState n i .occurrence ≡ objectState m i .occurrence
+    pub slot : (k : ℕ) → k < c .ipdus → ipduRecord t k .direction ≡ sending → part (slotAt k) 8 n ≡ part (slotAt k) 8 m
 
   pub same-refl : (m : List ℕ) → Same m m
   same-refl m = record { running = refl; old = λ i h k. refl; count = λ i h k. refl; slot = λ k h d. refl }
@@ -102,8 +102,8 @@ module _ (t : List ℕ) (c : Counts) where
   -- an object's row, where a send object keeps old and count
   pub same-object : (m : List ℕ) → Ready t c m → (j : ℕ) → j < c .objects → (s : ObjectState)
       → ObjectKept (objectRecord t (c .ipdus) j .depth) (Rattle.table.specs.Check.depths t c j) s
-      → (objectRecord t (c .ipdus) j .kind ≡ 1 → s .old ≡ objectState m j .old)
-      → (objectRecord t (c .ipdus) j .kind ≡ 1 → s .occurrence ≡ objectState m j .occurrence) → Same m (withObjectState m j s)
+      → (objectRecord t (c .ipdus) j .kind ≡ sending → s .old ≡ objectState m j .old)
+      → (objectRecord t (c .ipdus) j .kind ≡ sending → s .occurrence ≡ objectState m j .occurrence) → Same m (withObjectState m j s)
   unfolding runningAt numberAt
   same-object m ready j h s kept old count =
       record {
@@ -121,7 +121,7 @@ module _ (t : List ℕ) (c : Counts) where
         slot = λ k b d. object-part m j s room (slotAt k) 8 (inl (omega (arith, b, ready .right .shape .ipdus)));
       }
     where
-      room : objectRow j + 16 ≤ length m
+      room : objectRow j + rowSize ≤ length m
       room = object-row t c m ready j h
 
       stored : objectState (withObjectState m j s) j ≡ s
@@ -138,14 +138,14 @@ module _ (t : List ℕ) (c : Counts) where
         slot = λ j b d. ipdu-part m k s room (slotAt j) 8 (inr (omega (arith, low)));
       }
     where
-      room : ipduRow k + 16 ≤ length m
+      room : ipduRow k + rowSize ≤ length m
       room = ipdu-row t c m ready k h
 
-      low : k < 32
+      low : k < mostIpdus
       low = omega (arith, h, ready .right .shape .ipdus)
 
   -- bytes behind the rows, or in the slot of a receive I-PDU
-  pub same-queue : (m : List ℕ) → Ready t c m → (at : ℕ) (f : List ℕ) → at + length f ≤ length m → 2832 ≤ at → Same m (replaced at f m)
+  pub same-queue : (m : List ℕ) → Ready t c m → (at : ℕ) (f : List ℕ) → at + length f ≤ length m → queues ≤ at → Same m (replaced at f m)
   unfolding runningAt numberAt
   same-queue m ready at f room high =
       record {
@@ -159,7 +159,7 @@ module _ (t : List ℕ) (c : Counts) where
       row i b =
           object-read (replaced at f m) m i (λ o w e. part-apart at f m (objectRow i + o) w room (inl (omega (arith, e, b, high, ready .right .shape .objects))))
 
-  pub same-slot : (m : List ℕ) → Ready t c m → (j : ℕ) → j < c .ipdus → (ipduRecord t j .direction ≡ 1 → ⊥) → (f : List ℕ) → length f ≤ 8
+  pub same-slot : (m : List ℕ) → Ready t c m → (j : ℕ) → j < c .ipdus → (ipduRecord t j .direction ≡ sending → ⊥) → (f : List ℕ) → length f ≤ 8
       → Same m (replaced (slotAt j) f m)
   unfolding runningAt numberAt
   same-slot m ready j h received f few =
@@ -189,9 +189,9 @@ module _ (t : List ℕ) (c : Counts) where
   pub record Refines (b : Book) (m : List ℕ) : Type 0 where
     pub ready : Ready t c m
     pub running : runningAt m ≡ pick (b .stopped) 0 1
-    pub old : (i : ℕ) → i < c .objects → objectRecord t (c .ipdus) i .kind ≡ 1 → objectState m i .old ≡ lastOf i (b .entries)
-    pub count : (i : ℕ) → i < c .objects → objectRecord t (c .ipdus) i .kind ≡ 1 → objectState m i .occurrence ≡ b .counts i
-    pub bits : (k : ℕ) → k < c .ipdus → ipduRecord t k .direction ≡ 1 → (p : ℕ) → p < 64
+    pub old : (i : ℕ) → i < c .objects → objectRecord t (c .ipdus) i .kind ≡ sending → objectState m i .old ≡ lastOf i (b .entries)
+    pub count : (i : ℕ) → i < c .objects → objectRecord t (c .ipdus) i .kind ≡ sending → objectState m i .occurrence ≡ b .counts i
+    pub bits : (k : ℕ) → k < c .ipdus → ipduRecord t k .direction ≡ sending → (p : ℕ) → p < 64
         → frameBit (part (slotAt k) 8 m) p ≡ bookBit t c (b .entries) k p
 
   pub refines-same : (b : Book) (m n : List ℕ) → Refines b m → Ready t c n → Same m n → Refines b n
@@ -227,8 +227,8 @@ module _ (t : List ℕ) (c : Counts) where
 
   -- bits of each send I-PDU after packing
   pub pack-bits : (b : List Entry) (m : List ℕ) → Right t c → length m ≡ memorySize → (i v : ℕ) → (h : i < c .objects)
-      → ((k : ℕ) → k < c .ipdus → ipduRecord t k .direction ≡ 1 → (p : ℕ) → p < 64 → frameBit (part (slotAt k) 8 m) p ≡ bookBit t c b k p)
-      → (k : ℕ) → k < c .ipdus → ipduRecord t k .direction ≡ 1 → (p : ℕ) → p < 64
+      → ((k : ℕ) → k < c .ipdus → ipduRecord t k .direction ≡ sending → (p : ℕ) → p < 64 → frameBit (part (slotAt k) 8 m) p ≡ bookBit t c b k p)
+      → (k : ℕ) → k < c .ipdus → ipduRecord t k .direction ≡ sending → (p : ℕ) → p < 64
       → frameBit (part (slotAt k) 8 (pack (object t c i) v m)) p ≡ bookBit t c (enter i v b) k p
   unfolding objectOf
   pack-bits b m right long i v h before k low d p few =

@@ -22,7 +22,7 @@ use Rattle.bits.proofs.Numbers.{number-ext, number-bits}
 use Rattle.bits.proofs.Places.{Run, along, place-inside}
 use Rattle.table.specs.declared.Counts.{Counts}
 use Rattle.table.specs.declared.ObjectRecord.{ObjectRecord}
-use Rattle.table.specs.Records.{absent, counts, ipduRecord, objectRecord}
+use Rattle.table.specs.Records.{sending, absent, counts, ipduRecord, objectRecord}
 use Rattle.table.specs.Rules.{orderOf}
 use Rattle.table.specs.Check.{isSent, shareBit, overlapsLower}
 use Rattle.table.specs.Decode.{Right}
@@ -81,10 +81,10 @@ module _ (t : List ℕ) (c : Counts) (right : Right t c) (k : ℕ) (in-table : k
       let r = objectRecord t (c .ipdus) i in
       let o = orderOf (r .order) in
       let both = and-split (eqb (r .ipdu) k) (owns o (r .start) (r .size) p) y in
-      let one = and-split (ltb i (c .objects)) (eqb (r .kind) 1) s .1 in
+      let one = and-split (ltb i (c .objects)) (eqb (r .kind) sending) s .1 in
       let at = eqb-true (r .ipdu) k (both .0) in
       let n = any-true (r .size) (λ n. eqb (place o (r .start) n) p) (unfold owns in both .1) in
-      let run = object-run i (object-there t c 1 i s) in
+      let run = object-run i (object-there t c sending i s) in
       let inside = along o (r .start) (n .0) (run .begins) (omega (arith, run .ends, n .1)) .inside in
       record {
         low = omega (arith, inside, eqb-true (place o (r .start) (n .0)) p (n .2));
@@ -111,8 +111,8 @@ module _ (t : List ℕ) (c : Counts) (right : Right t c) (k : ℕ) (in-table : k
         ⊎-elim
         (λ (y : ownsIpduBit (objectRecord t (c .ipdus) j) k p ≡ true).
         ⊎-elim
-        (λ (less : j < i). absurd (not-lower i j p less (object-there t c 1 i s) (owner i p s mine) (owner j p sj y)))
-        (λ (more : i ≤ j). absurd (not-lower j i p (omega (arith, more, ne)) (object-there t c 1 j sj) (owner j p sj y) (owner i p s mine)))
+        (λ (less : j < i). absurd (not-lower i j p less (object-there t c sending i s) (owner i p s mine) (owner j p sj y)))
+        (λ (more : i ≤ j). absurd (not-lower j i p (omega (arith, more, ne)) (object-there t c sending j sj) (owner j p sj y) (owner i p s mine)))
         (lt-or-le j i))
         (λ n. n)
         (true-or-false (ownsIpduBit (objectRecord t (c .ipdus) j) k p))
@@ -135,7 +135,7 @@ module _ (t : List ℕ) (c : Counts) (right : Right t c) (k : ℕ) (in-table : k
   frame-reads es full i s at f bits =
       let r = objectRecord t (c .ipdus) i in
       let o = orderOf (r .order) in
-      let h = object-there t c 1 i s in
+      let h = object-there t c sending i s in
       let some : eqb (r .ipdu) absent ≡ false = ne-eqb (r .ipdu) absent (omega (arith, at, in-table, right .shape .ipdus)) in
       number-ext (r .size) (λ n. frameBit f (place o (r .start) n)) (bit (lastOf i es))
       (λ n b.

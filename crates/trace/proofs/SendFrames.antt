@@ -16,7 +16,7 @@ use Rattle.memory.specs.Search.{pick, fold}
 use Rattle.memory.proofs.Search.{picked, any-false, fold-view}
 use Rattle.memory.proofs.Tests.{true-or-false, true-not-false}
 use Rattle.table.specs.declared.Counts.{Counts}
-use Rattle.table.specs.Records.{objectRecord}
+use Rattle.table.specs.Records.{receiving, sending, objectRecord}
 use Rattle.table.specs.Decode.{objectOf, Right}
 use Rattle.table.proofs.Accepted.{Usable, usable}
 use Rattle.state.specs.declared.ObjectState.{ObjectState}
@@ -49,13 +49,13 @@ module _ (t : List ℕ) (c : Counts) where
 
   -- ---- the request
 
-  request-in-area : (i : ℕ) → isObject t c 1 i ≡ true → (area : List ℕ) → areaSize ≤ length area → (m : List ℕ) → Ready t c m
+  request-in-area : (i : ℕ) → isObject t c sending i ≡ true → (area : List ℕ) → areaSize ≤ length area → (m : List ℕ) → Ready t c m
       → FramesOf (request t (object t c i) area m)
   request-in-area i is area fits m ready =
       ⊎-elim wanted (λ (w : wants t (object t c i) ≡ false). unfold request in rw w (in-area-zero area m)) (true-or-false (wants t (object t c i)))
     where
       h : i < c .objects
-      h = object-there t c 1 i is
+      h = object-there t c sending i is
 
       k : ℕ
       k = objectRecord t (c .ipdus) i .ipdu
@@ -76,15 +76,15 @@ module _ (t : List ℕ) (c : Counts) where
 
   pub send-in-area : (i v : ℕ) → v < 2 ^ 32 → (area : List ℕ) → areaSize ≤ length area → (m : List ℕ) → Ready t c m → FramesOf (sendIn t c i v area m)
   send-in-area i v small area fits m ready =
-      ⊎-elim sent (λ (no : isObject t c 1 i ≡ false). unfold sendIn in rw no (in-area-zero area m)) (true-or-false (isObject t c 1 i))
+      ⊎-elim sent (λ (no : isObject t c sending i ≡ false). unfold sendIn in rw no (in-area-zero area m)) (true-or-false (isObject t c sending i))
     where
-      sent : isObject t c 1 i ≡ true → FramesOf (sendIn t c i v area m)
+      sent : isObject t c sending i ≡ true → FramesOf (sendIn t c i v area m)
       sent is =
           let n = after t c m ready i is v small area in
           let next = after-ready t c m ready i is v small area in
           rw (sent-as t c m ready i is v small area (judge t c m ready i is v small area) refl)
           (picked FramesOf (judge t c m ready i is v small area) _ _
-          (λ p. request-in-area i is area fits (pack (object t c i) v n) (ready-pack t c n next i (object-there t c 1 i is) v))
+          (λ p. request-in-area i is area fits (pack (object t c i) v n) (ready-pack t c n next i (object-there t c sending i is) v))
           (λ p. in-area-zero area n))
 
   -- ---- another area
@@ -97,11 +97,11 @@ module _ (t : List ℕ) (c : Counts) where
       × (sendIn t c i v area m .memory ≡ sendIn t c i v other m .memory)
   unfolding sendIn sendOf request
   send-area i v area other m = (
-    pick-view (λ (o : Outcome). o .answer) (isObject t c 1 i) _ _ _ _
+    pick-view (λ (o : Outcome). o .answer) (isObject t c sending i) _ _ _ _
         (pick-view (λ (o : Outcome). o .answer) (passesFilter (object t c i) v (objectState (deliverInside t c i v m) i)) _ _ _ _
         (pick-view (λ (o : Outcome). o .answer) (wants t (object t c i)) _ _ _ _ refl refl) refl)
         refl,
-    pick-view (λ (o : Outcome). o .memory) (isObject t c 1 i) _ _ _ _
+    pick-view (λ (o : Outcome). o .memory) (isObject t c sending i) _ _ _ _
         (pick-view (λ (o : Outcome). o .memory) (passesFilter (object t c i) v (objectState (deliverInside t c i v m) i)) _ _ _ _
         (pick-view (λ (o : Outcome). o .memory) (wants t (object t c i)) _ _ _ _ refl refl) refl)
         refl,
@@ -117,19 +117,19 @@ module _ (t : List ℕ) (c : Counts) where
       not-inside j b e =
           let from : objectRecord t (c .ipdus) j .sender ≡ i = eqb-true (objectRecord t (c .ipdus) j .sender) i e in
           let two = sender-received t c right j b (omega (arith, from, h, right .shape .objects)) in
-          true-not-false {b = eqb (objectRecord t (c .ipdus) j .kind) 2 && eqb (objectRecord t (c .ipdus) j .sender) i} (rw (two, e))
-          (any-false (c .objects) (λ n. eqb (objectRecord t (c .ipdus) n .kind) 2 && eqb (objectRecord t (c .ipdus) n .sender) i) none j b)
+          true-not-false {b = eqb (objectRecord t (c .ipdus) j .kind) receiving && eqb (objectRecord t (c .ipdus) j .sender) i} (rw (two, e))
+          (any-false (c .objects) (λ n. eqb (objectRecord t (c .ipdus) n .kind) receiving && eqb (objectRecord t (c .ipdus) n .sender) i) none j b)
 
       still : (j : ℕ) → j < c .objects → insideTurn t c i v j (fold j (insideTurn t c i v) m) ≡ fold j (insideTurn t c i v) m
       still j b =
           picked (λ (l : List ℕ). l ≡ fold j (insideTurn t c i v) m) (eqb (objectRecord t (c .ipdus) j .sender) i)
           (deliver (object t c j) j v (fold j (insideTurn t c i v) m)) (fold j (insideTurn t c i v) m) (λ e. absurd (not-inside j b e)) (λ e. refl)
 
-  pub send-dropped : (b : Book) (m : List ℕ) → Refines t c b m → (i v : ℕ) → v < 2 ^ 32 → (area : List ℕ) → isObject t c 1 i ≡ true
+  pub send-dropped : (b : Book) (m : List ℕ) → Refines t c b m → (i v : ℕ) → v < 2 ^ 32 → (area : List ℕ) → isObject t c sending i ≡ true
       → keeps t c b i v ≡ false → inside t c i ≡ false → sendIn t c i v area m ≡ outcome (Done 0) (withObjectState m i (counted (objectState m i))) area
   send-dropped b m a i v small area is drop none =
       let p : judge t c m (a .ready) i is v small area ≡ false = judge-is t c b m a i is v small area ∙ drop in
-      let same = none-inside i v (object-there t c 1 i is) none m (a .ready .right) in
+      let same = none-inside i v (object-there t c sending i is) none m (a .ready .right) in
       sent-as t c m (a .ready) i is v small area false p
       ∙ ap (λ (s : ObjectState). outcome (Done 0) (withObjectState (deliverInside t c i v m) i s) area)
       (filtered-out (judge t c m (a .ready) i is v small area) v (objectState (deliverInside t c i v m) i) p)

@@ -9,7 +9,7 @@ use lib.Dec.{eqb}
 use Rattle.memory.specs.Search.{pick}
 use Rattle.bits.proofs.Places.{position-twice}
 use Rattle.table.specs.declared.Counts.{Counts}
-use Rattle.table.specs.Records.{absent, objectRecord}
+use Rattle.table.specs.Records.{sending, absent, objectRecord}
 use Rattle.table.specs.Rules.{orderOf}
 use Rattle.table.specs.Check.{depths}
 use Rattle.table.specs.Decode.{objectOf, Right}
@@ -42,10 +42,10 @@ module _ (t : List ℕ) (c : Counts) (right : Right t c) (i : ℕ) (h : i < c .o
 
 -- ---- send
 
-module _ (t : List ℕ) (c : Counts) (m : List ℕ) (ready : Ready t c m) (i : ℕ) (is : isObject t c 1 i ≡ true) (v : ℕ) (small : v < 2 ^ 32)
+module _ (t : List ℕ) (c : Counts) (m : List ℕ) (ready : Ready t c m) (i : ℕ) (is : isObject t c sending i ≡ true) (v : ℕ) (small : v < 2 ^ 32)
     (area : List ℕ) where
   pub here : i < c .objects
-  here = object-there t c 1 i is
+  here = object-there t c sending i is
 
   -- working memory after internal delivery, and after the filtering
   abbrev pub inner : List ℕ

@@ -11,17 +11,17 @@ use lib.ListN.{length}
 use Rattle.memory.specs.Bytes.{value, part, numberAt}
 use Rattle.memory.specs.Search.{pick}
 use Rattle.memory.proofs.Tests.{eq-or-ne, true-or-false}
-use Rattle.filter.specs.Filters.{passes}
+use Rattle.filter.specs.Filters.{nextOccurrence, passes}
 use Rattle.table.specs.declared.Counts.{Counts}
 use Rattle.table.specs.declared.Direction.{Direction}
 use Rattle.table.specs.declared.Direction.the-variants.{Send, Receive}
 use Rattle.table.specs.declared.Object.{Object}
-use Rattle.table.specs.Records.{objectRecord}
+use Rattle.table.specs.Records.{sending, objectRecord}
 use Rattle.table.specs.Check.{depths}
 use Rattle.table.specs.Decode.{objectOf}
 use Rattle.table.proofs.Accepted.{Usable}
 use Rattle.state.specs.declared.ObjectState.{ObjectState}
-use Rattle.state.specs.Layout.{runningAt, slotAt, objectRow, objectState, withObjectState}
+use Rattle.state.specs.Layout.{rowSize, runningAt, slotAt, objectRow, objectState, withObjectState}
 use Rattle.state.specs.Ranges.{Ready}
 use Rattle.state.proofs.RowLaws.{object-part, object-stored, object-other}
 use Rattle.state.proofs.Ready.{ObjectKept, kept-fits, object-row, ready-kept, ready-object}
@@ -40,7 +40,7 @@ use Rattle.trace.proofs.BookUnchanged.{BookUnchanged, unchanged-inside,
 
 module _ (t : List ℕ) (c : Counts) (m : List ℕ) (ready : Ready t c m) (i : ℕ) (h : i < c .objects) (s : ObjectState)
     (kept : ObjectKept (objectRecord t (c .ipdus) i .depth) (depths t c i) s) where
-  room : objectRow i + 16 ≤ length m
+  room : objectRow i + rowSize ≤ length m
   room = object-row t c m ready i h
 
   pub row-own : objectState (withObjectState m i s) i ≡ s
@@ -134,18 +134,18 @@ pub filtered-out : (b : Bool) (v : ℕ) (s : ObjectState) → b ≡ false → af
 unfolding afterFilter
 filtered-out b v s e = rw e
 
-filtered-count : (b : Bool) (v : ℕ) (s : ObjectState) → afterFilter b v s .occurrence ≡ (s .occurrence + 1) % 256
+filtered-count : (b : Bool) (v : ℕ) (s : ObjectState) → afterFilter b v s .occurrence ≡ nextOccurrence (s .occurrence)
 unfolding afterFilter
 filtered-count true v s = refl
 filtered-count false v s = refl
 
-module _ (t : List ℕ) (c : Counts) (b : Book) (m : List ℕ) (a : Refines t c b m) (i : ℕ) (is : isObject t c 1 i ≡ true) (v : ℕ) (small : v < 2 ^ 32)
+module _ (t : List ℕ) (c : Counts) (b : Book) (m : List ℕ) (a : Refines t c b m) (i : ℕ) (is : isObject t c sending i ≡ true) (v : ℕ) (small : v < 2 ^ 32)
     (area : List ℕ) where
   low : i < c .objects
   low = here t c m (a .ready) i is v small area
 
-  one : objectRecord t (c .ipdus) i .kind ≡ 1
-  one = object-kind t c 1 i is
+  one : objectRecord t (c .ipdus) i .kind ≡ sending
+  one = object-kind t c sending i is
 
   abbrev first : List ℕ
   first = inner t c m (a .ready) i is v small area
@@ -171,8 +171,8 @@ module _ (t : List ℕ) (c : Counts) (b : Book) (m : List ℕ) (a : Refines t c 
   count-own : row .occurrence ≡ nextCounts i (b .counts) i
   count-own =
       filtered-count (judge t c m (a .ready) i is v small area) v (objectState first i)
-      ∙ ap (λ (n : ℕ). (n + 1) % 256) (first-agrees .count i low one)
-      ∙ sym (ap (λ (x : Bool). pick x ((b .counts i + 1) % 256) (b .counts i)) (eq-eqb i i refl))
+      ∙ ap nextOccurrence (first-agrees .count i low one)
+      ∙ sym (ap (λ (x : Bool). pick x (nextOccurrence (b .counts i)) (b .counts i)) (eq-eqb i i refl))
 
   count-other : (j : ℕ) → (j ≡ i → ⊥) → nextCounts i (b .counts) j ≡ b .counts j
   count-other j ne = rw (ne-eqb j i ne)
@@ -202,12 +202,12 @@ pub refines-send : (t : List ℕ) (c : Counts) (b : Book) (m : List ℕ) → Ref
     → Refines t c (pick (sends t c i) (afterSend t c b i v) b) (sendIn t c i v area m .memory)
 refines-send t c b m a i v small area =
     ⊎-elim
-    (λ (is : isObject t c 1 i ≡ true). rw is (refines-sent t c b m a i is v small area))
-    (λ (out : isObject t c 1 i ≡ false). refused out)
-    (true-or-false (isObject t c 1 i))
+    (λ (is : isObject t c sending i ≡ true). rw is (refines-sent t c b m a i is v small area))
+    (λ (out : isObject t c sending i ≡ false). refused out)
+    (true-or-false (isObject t c sending i))
   where
-    kept-memory : isObject t c 1 i ≡ false → sendIn t c i v area m .memory ≡ m
+    kept-memory : isObject t c sending i ≡ false → sendIn t c i v area m .memory ≡ m
     kept-memory out = unfold sendIn in rw out
 
-    refused : isObject t c 1 i ≡ false → Refines t c (pick (sends t c i) (afterSend t c b i v) b) (sendIn t c i v area m .memory)
+    refused : isObject t c sending i ≡ false → Refines t c (pick (sends t c i) (afterSend t c b i v) b) (sendIn t c i v area m .memory)
     refused out = rw (kept-memory out, out) a

@@ -14,8 +14,8 @@ use Rattle.memory.specs.Search.{pick}
 use Rattle.memory.proofs.Search.{picked}
 use Rattle.memory.proofs.Tests.{true-or-false}
 use Rattle.table.specs.declared.Counts.{Counts}
-use Rattle.table.specs.Records.{objectRecord}
-use Rattle.state.specs.Layout.{areaSize, objectState}
+use Rattle.table.specs.Records.{sending, objectRecord}
+use Rattle.state.specs.Layout.{slots, areaSize, objectState}
 use Rattle.state.specs.Ranges.{Ready}
 use Rattle.message.specs.Objects.{object, passesFilter}
 use Rattle.message.specs.Delivery.{deliverInside}
@@ -70,16 +70,16 @@ module _ (t : List ℕ) (c : Counts) where
 
   -- ---- what a send and an initialise are done for
 
-  send-done : (i v : ℕ) (area m : List ℕ) → done (sendIn t c i v area m) ≡ isObject t c 1 i
+  send-done : (i v : ℕ) (area m : List ℕ) → done (sendIn t c i v area m) ≡ isObject t c sending i
   unfolding sendIn sendOf request
   send-done i v area m =
       ⊎-elim
-      (λ (y : isObject t c 1 i ≡ true).
+      (λ (y : isObject t c sending i ≡ true).
       rw y
       (picked (λ (o : Outcome). done o ≡ true) (passesFilter (object t c i) v (objectState (deliverInside t c i v m) i)) _ _
       (λ e. picked (λ (o : Outcome). done o ≡ true) (wants t (object t c i)) _ _ (λ w. refl) (λ w. refl)) (λ e. refl)))
-      (λ (n : isObject t c 1 i ≡ false). rw n)
-      (true-or-false (isObject t c 1 i))
+      (λ (n : isObject t c sending i ≡ false). rw n)
+      (true-or-false (isObject t c sending i))
 
   initialise-done : (i v : ℕ) (m : List ℕ) → done (initialiseIn t c i v m) ≡ ltb i (c .objects)
   unfolding initialiseIn
@@ -130,7 +130,7 @@ module _ (t : List ℕ) (c : Counts) where
         judged = λ b m. ap (λ (x : Bool). not (b .stopped) && x) (initialise-done i v m);
         book = λ b m a y z e.
             rw (initialise-done i v m)
-            (initialise-book (ltb i (c .objects)) (eqb (objectRecord t (c .ipdus) i .kind) 1) _ b _ (refines-initialise t c b m a i v y));
+            (initialise-book (ltb i (c .objects)) (eqb (objectRecord t (c .ipdus) i .kind) sending) _ b _ (refines-initialise t c b m a i v y));
         frames = λ m ready y e. in-area-zero t c _ _;
       }
   shows (receive i) = unchanged-row (receive i) [] (λ t c. receiveIn t c i) (λ m. receive-answered t c m i) (λ m ready z. unchanged-receive t c m ready i)

@@ -14,8 +14,8 @@ use Rattle.memory.proofs.Parts.{part-apart, part-replaced, part-length, part-fr
 use Rattle.memory.proofs.Tests.{true-or-false}
 use Rattle.bits.specs.Bits.{packed}
 use Rattle.table.specs.declared.Object.{Object}
-use Rattle.table.specs.Records.{absent}
-use Rattle.state.specs.Layout.{runningAt, objectRows, slotAt, ipduState, objectRow, objectState}
+use Rattle.table.specs.Records.{mostIpdus, absent}
+use Rattle.state.specs.Layout.{slots, areaSize, runningAt, objectRows, slotAt, ipduState, objectRow, objectState}
 use Rattle.state.specs.Updates.{withWanted}
 use Rattle.state.proofs.RowLaws.{ipdu-part, object-read}
 use Rattle.message.specs.Objects.{Placed, startBit, pack}
@@ -85,7 +85,7 @@ request-behind t o area m placed at w high =
     (true-or-false (wants t o))
 
 -- what is handed over: eight bytes of the slot's
-module _ (size k : ℕ) (m area : List ℕ) (few : size ≤ 8) (low : k < 32) (long : 256 ≤ length area) (room : slotAt k + 8 ≤ length m) where
+module _ (size k : ℕ) (m area : List ℕ) (few : size ≤ 8) (low : k < mostIpdus) (long : areaSize ≤ length area) (room : slotAt k + 8 ≤ length m) where
   held : length (part (slotAt k) size m) ≡ size
   held = part-length (slotAt k) size m (omega (arith, few, room))
 

@@ -21,13 +21,13 @@ use Rattle.table.specs.declared.Direction.{Direction}
 use Rattle.table.specs.declared.Direction.the-variants.{Send, Receive}
 use Rattle.table.specs.declared.Ipdu.{Ipdu}
 use Rattle.table.specs.declared.Object.{Object}
-use Rattle.table.specs.Records.{absent, objectRecord}
+use Rattle.table.specs.Records.{mostQueued, absent, objectRecord}
 use Rattle.table.specs.Check.{depths}
 use Rattle.table.specs.Decode.{objectOf, Right}
 use Rattle.table.proofs.Accepted.{Usable}
 use Rattle.state.specs.declared.IpduState.{IpduState}
 use Rattle.state.specs.declared.ObjectState.{ObjectState}
-use Rattle.state.specs.Layout.{memorySize, runningAt, slotAt, ipduRow, ipduState, withIpduState, objectRow, objectState, withObjectState}
+use Rattle.state.specs.Layout.{rowSize, slots, memorySize, runningAt, slotAt, ipduRow, ipduState, withIpduState, objectRow, objectState, withObjectState}
 use Rattle.state.specs.Ranges.{ipduInRange, objectInRange, Ready}
 use Rattle.state.proofs.RowLaws.{IpduFits, ObjectFits, ipdu-length, ipdu-part, ipdu-stored, ipdu-bytes, ipdu-other, ipdu-read, object-length, object-part, object-stored, object-bytes, object-other, object-keeps-ipdus}
 use Rattle.state.proofs.Ready.{ObjectKept, kept-object}
@@ -87,7 +87,7 @@ idle-fits n h =
       timer = h;
     }
 
-pub unused-fits : (value old queue : ℕ) → value < 2 ^ 32 → old < 2 ^ 32 → queue ≤ 512 → ObjectFits (unused value old queue)
+pub unused-fits : (value old queue : ℕ) → value < 2 ^ 32 → old < 2 ^ 32 → queue ≤ mostQueued → ObjectFits (unused value old queue)
 unused-fits value old queue a b d =
     record {
       value = a;
@@ -156,7 +156,7 @@ module _ (t : List ℕ) (c : Counts) (right : Right t c) (bt : Bytes t) where
 
       more : Begun n (fold n (startIpdu t) blank) → Begun (suc n) (startIpdu t n (fold n (startIpdu t) blank))
       more b =
-          let room : ipduRow n + 16 ≤ length m = omega (arith, b .long, h, right .shape .ipdus) in
+          let room : ipduRow n + rowSize ≤ length m = omega (arith, b .long, h, right .shape .ipdus) in
           record {
             long = ipdu-length m n s room ∙ b .long;
             bytes = ipdu-bytes m n s (b .bytes);
@@ -167,7 +167,7 @@ module _ (t : List ℕ) (c : Counts) (right : Right t c) (bt : Bytes t) where
           }
 
   -- packing leaves what is no slot
-  pack-part : (o : Object) (v : ℕ) (m : List ℕ) → Placed o m → (j w : ℕ) → j + w ≤ 528 → part j w (pack o v m) ≡ part j w m
+  pack-part : (o : Object) (v : ℕ) (m : List ℕ) → Placed o m → (j w : ℕ) → j + w ≤ slots → part j w (pack o v m) ≡ part j w m
   unfolding pack
   pack-part o v m placed j w low =
       ⊎-elim
@@ -198,7 +198,7 @@ module _ (t : List ℕ) (c : Counts) (right : Right t c) (bt : Bytes t) where
     pub objects : (i : ℕ) → i < n → objectInRange (objectRecord t (c .ipdus) i .depth) (depths t c i) (objectState m i) ≡ true
 
   module _ (n : ℕ) (h : n < c .objects) (m : List ℕ) (b : Set n m) where
-    room : objectRow n + 16 ≤ length m
+    room : objectRow n + rowSize ≤ length m
     room = omega (arith, b .long, h, right .shape .objects)
 
     placed : Placed (object t c n) m
@@ -208,15 +208,15 @@ module _ (t : List ℕ) (c : Counts) (right : Right t c) (bt : Bytes t) where
     unfolding objectOf Rattle.table.specs.Records.objectRecord
     initial-fits = number-lt 4 _ t bt
 
-    pub queue-low : depths t c n ≤ 512
+    pub queue-low : depths t c n ≤ mostQueued
     queue-low = omega (arith, depth-sum t c right n h)
 
     -- a row set over a memory that agrees with this one on all rows
-    set-row : (l : List ℕ) (v : ℕ) → v < 2 ^ 32 → length l ≡ length m → Bytes l → ((j w : ℕ) → j + w ≤ 528 → part j w l ≡ part j w m)
+    set-row : (l : List ℕ) (v : ℕ) → v < 2 ^ 32 → length l ≡ length m → Bytes l → ((j w : ℕ) → j + w ≤ slots → part j w l ≡ part j w m)
         → ((i : ℕ) → objectState l i ≡ objectState m i) → Set (suc n) (withObjectState l n (unused v (object t c n .initial) (depths t c n)))
     unfolding runningAt numberAt
     set-row l v small same bs low rows =
-        let there : objectRow n + 16 ≤ length l = omega (arith, room, same) in
+        let there : objectRow n + rowSize ≤ length l = omega (arith, room, same) in
         let s : ObjectState = unused v (object t c n .initial) (depths t c n) in
         record {
           long = object-length l n s there ∙ same ∙ b .long;

@@ -19,11 +19,11 @@ use Rattle.bits.specs.Bits.{bit, frameBit}
 use Rattle.table.specs.declared.Counts.{Counts}
 use Rattle.table.specs.declared.Direction.{Direction}
 use Rattle.table.specs.declared.Direction.the-variants.{Send, Receive}
-use Rattle.table.specs.Records.{ipduRecord, objectRecord}
+use Rattle.table.specs.Records.{sending, ipduRecord, objectRecord}
 use Rattle.table.specs.Check.{depths}
 use Rattle.table.specs.Decode.{objectOf, Right}
 use Rattle.state.specs.declared.ObjectState.{ObjectState}
-use Rattle.state.specs.Layout.{memorySize, slotAt, objectRow, objectState, withObjectState}
+use Rattle.state.specs.Layout.{rowSize, memorySize, slotAt, objectRow, objectState, withObjectState}
 use Rattle.state.proofs.RowLaws.{ipdu-part, object-part, object-length, object-stored, object-other}
 use Rattle.message.specs.Objects.{object, Placed}
 use Rattle.message.proofs.ObjectsInRange.{right-placed}
@@ -51,9 +51,9 @@ module _ (t : List ℕ) (c : Counts) (right : Right t c) (bt : Bytes t) where
   -- the first n objects are as the book has them
   record Opens (n : ℕ) (m : List ℕ) : Type 0 where
     set : Set t c right bt n m
-    old : (i : ℕ) → i < n → objectRecord t (c .ipdus) i .kind ≡ 1 → objectState m i .old ≡ lastOf i (rows n)
+    old : (i : ℕ) → i < n → objectRecord t (c .ipdus) i .kind ≡ sending → objectState m i .old ≡ lastOf i (rows n)
     count : (i : ℕ) → i < n → objectState m i .occurrence ≡ 0
-    bits : (k : ℕ) → k < c .ipdus → ipduRecord t k .direction ≡ 1 → (p : ℕ) → p < 64 → frameBit (part (slotAt k) 8 m) p ≡ bookBit t c (rows n) k p
+    bits : (k : ℕ) → k < c .ipdus → ipduRecord t k .direction ≡ sending → (p : ℕ) → p < 64 → frameBit (part (slotAt k) 8 m) p ≡ bookBit t c (rows n) k p
 
   -- no object yet: each bit is 0
   no-bits : (k : ℕ) → k < c .ipdus → part (slotAt k) 8 (fold (c .ipdus) (startIpdu t) blank) ≡ part (slotAt k) 8 blank
@@ -74,7 +74,7 @@ module _ (t : List ℕ) (c : Counts) (right : Right t c) (bt : Bytes t) where
       }
 
   module _ (n : ℕ) (h : n < c .objects) (m : List ℕ) (x : Opens n m) where
-    room : objectRow n + 16 ≤ length m
+    room : objectRow n + rowSize ≤ length m
     room = omega (arith, x .set .long, h, right .shape .objects)
 
     initial : object t c n .initial ≡ objectRecord t (c .ipdus) n .initial
@@ -101,13 +101,13 @@ module _ (t : List ℕ) (c : Counts) (right : Right t c) (bt : Bytes t) where
           (λ (ne : i ≡ n → ⊥). ap (λ (s : ObjectState). s .occurrence) (other i (omega (arith, low, ne))) ∙ x .count i (omega (arith, low, ne)))
           (eq-or-ne i n)
 
-      slots : (k : ℕ) → k < c .ipdus → part (slotAt k) 8 (withObjectState m n (unused v (object t c n .initial) (depths t c n))) ≡ part (slotAt k) 8 m
-      slots k low = object-part m n (unused v (object t c n .initial) (depths t c n)) room (slotAt k) 8 (inl (omega (arith, low, right .shape .ipdus)))
+      slots-stay : (k : ℕ) → k < c .ipdus → part (slotAt k) 8 (withObjectState m n (unused v (object t c n .initial) (depths t c n))) ≡ part (slotAt k) 8 m
+      slots-stay k low = object-part m n (unused v (object t c n .initial) (depths t c n)) room (slotAt k) 8 (inl (omega (arith, low, right .shape .ipdus)))
 
       long : length (withObjectState m n (unused v (object t c n .initial) (depths t c n))) ≡ memorySize
       long = object-length m n (unused v (object t c n .initial) (depths t c n)) room ∙ x .set .long
 
-    sent-more : objectRecord t (c .ipdus) n .kind ≡ 1 → Opens (suc n) (startAs Send (object t c n) n (depths t c n) m)
+    sent-more : objectRecord t (c .ipdus) n .kind ≡ sending → Opens (suc n) (startAs Send (object t c n) n (depths t c n) m)
     sent-more one =
         record {
           set = set-more t c right bt n h m (x .set) Send;
@@ -124,7 +124,7 @@ module _ (t : List ℕ) (c : Counts) (right : Right t c) (bt : Bytes t) where
           bits = λ k low d p few.
               rw entry
               (pack-bits t c (rows n) (next 0 small) right (long 0 small) n (object t c n .initial) h
-              (λ j b e q r. rw (slots 0 small j b) (x .bits j b e q r)) k low d p few);
+              (λ j b e q r. rw (slots-stay 0 small j b) (x .bits j b e q r)) k low d p few);
         }
       where
         small : 0 < 2 ^ 32
@@ -134,9 +134,9 @@ module _ (t : List ℕ) (c : Counts) (right : Right t c) (bt : Bytes t) where
         placed = right-placed t c (next 0 small) right (omega (arith, long 0 small)) n h
 
         entry : rows (suc n) ≡ enter n (object t c n .initial) (rows n)
-        entry = rw (eq-eqb (objectRecord t (c .ipdus) n .kind) 1 one, initial)
+        entry = rw (eq-eqb (objectRecord t (c .ipdus) n .kind) sending one, initial)
 
-    received-more : (objectRecord t (c .ipdus) n .kind ≡ 1 → ⊥) → Opens (suc n) (startAs Receive (object t c n) n (depths t c n) m)
+    received-more : (objectRecord t (c .ipdus) n .kind ≡ sending → ⊥) → Opens (suc n) (startAs Receive (object t c n) n (depths t c n) m)
     received-more received =
         record {
           set = set-more t c right bt n h m (x .set) Receive;
@@ -147,7 +147,7 @@ module _ (t : List ℕ) (c : Counts) (right : Right t c) (bt : Bytes t) where
               rw entry (ap (λ (s : ObjectState). s .old) (other v small i (omega (arith, low, ne))) ∙ x .old i (omega (arith, low, ne)) k))
               (eq-or-ne i n);
           count = counts v small;
-          bits = λ k low d p few. rw (entry, slots v small k low) (x .bits k low d p few);
+          bits = λ k low d p few. rw (entry, slots-stay v small k low) (x .bits k low d p few);
         }
       where
         v : ℕ
@@ -157,16 +157,16 @@ module _ (t : List ℕ) (c : Counts) (right : Right t c) (bt : Bytes t) where
         small = initial-fits t c right bt n h m (x .set)
 
         entry : rows (suc n) ≡ rows n
-        entry = rw (ne-eqb (objectRecord t (c .ipdus) n .kind) 1 received)
+        entry = rw (ne-eqb (objectRecord t (c .ipdus) n .kind) sending received)
 
   by-direction : (n : ℕ) (h : n < c .objects) (m : List ℕ) → Opens n m → Opens (suc n) (startObject t c n m)
   by-direction n h m x =
       ⊎-elim
-      (λ (e : eqb (objectRecord t (c .ipdus) n .kind) 1 ≡ true).
-      subst (λ (d : Direction). Opens (suc n) (startAs d (object t c n) n (depths t c n) m)) (sym (object-sends t c n e)) (sent-more n h m x (eqb-true (objectRecord t (c .ipdus) n .kind) 1 e)))
-      (λ (e : eqb (objectRecord t (c .ipdus) n .kind) 1 ≡ false).
-      subst (λ (d : Direction). Opens (suc n) (startAs d (object t c n) n (depths t c n) m)) (sym (object-receives t c n e)) (received-more n h m x (eqb-false (objectRecord t (c .ipdus) n .kind) 1 e)))
-      (true-or-false (eqb (objectRecord t (c .ipdus) n .kind) 1))
+      (λ (e : eqb (objectRecord t (c .ipdus) n .kind) sending ≡ true).
+      subst (λ (d : Direction). Opens (suc n) (startAs d (object t c n) n (depths t c n) m)) (sym (object-sends t c n e)) (sent-more n h m x (eqb-true (objectRecord t (c .ipdus) n .kind) sending e)))
+      (λ (e : eqb (objectRecord t (c .ipdus) n .kind) sending ≡ false).
+      subst (λ (d : Direction). Opens (suc n) (startAs d (object t c n) n (depths t c n) m)) (sym (object-receives t c n e)) (received-more n h m x (eqb-false (objectRecord t (c .ipdus) n .kind) sending e)))
+      (true-or-false (eqb (objectRecord t (c .ipdus) n .kind) sending))
 
   opens : (n : ℕ) → n ≤ c .objects → Opens n (fold n (startObject t c) (fold (c .ipdus) (startIpdu t) blank))
   opens zero h = opens-none

@@ -2,15 +2,15 @@
 -- request area it sees the length, of working memory nothing. Assumes nothing.
 use mathlib.Core.Bool.{Bool, true, false, not, _&&_}
 use mathlib.Core.List.{List, [], _∷_}
-use Prim.Native.Nat.{ℕ, _+_, _%_}
+use Prim.Native.Nat.{ℕ}
 use lib.Dec.{leb, ltb, eqb}
 use lib.ListN.{length}
 use Rattle.memory.specs.Search.{pick, least, fold}
 use Rattle.bits.specs.Bits.{bit, place, owns}
-use Rattle.filter.specs.Filters.{passes, filterOf}
+use Rattle.filter.specs.Filters.{passes, nextOccurrence, filterOf}
 use Rattle.table.specs.declared.Counts.{Counts}
 use Rattle.table.specs.declared.ObjectRecord.{ObjectRecord}
-use Rattle.table.specs.Records.{objectRecord}
+use Rattle.table.specs.Records.{sending, objectRecord}
 use Rattle.table.specs.Rules.{orderOf}
 use Rattle.layer.specs.Step.{Call, Told, toldStart, toldStop, toldSend, toldInitialise, toldNothing, lentBytes, describe}
 use Rattle.state.specs.Layout.{areaSize}
@@ -35,12 +35,12 @@ enter i v es = record { object = i; value = v } ∷ es
 
 -- there is a send object of this number
 abbrev pub sends : List ℕ → Counts → ℕ → Bool
-sends t c i = ltb i (c .objects) && eqb (objectRecord t (c .ipdus) i .kind) 1
+sends t c i = ltb i (c .objects) && eqb (objectRecord t (c .ipdus) i .kind) sending
 
 -- ---- start: an entry for each send object by rising number, with its initial value; counts 0, not stopped
 
 abbrev pub openEntry : List ℕ → Counts → ℕ → List Entry → List Entry
-openEntry t c i es = pick (eqb (objectRecord t (c .ipdus) i .kind) 1) (enter i (objectRecord t (c .ipdus) i .initial) es) es
+openEntry t c i es = pick (eqb (objectRecord t (c .ipdus) i .kind) sending) (enter i (objectRecord t (c .ipdus) i .initial) es) es
 
 abbrev pub opened : List ℕ → Counts → Book
 opened t c = record { entries = fold (c .objects) (openEntry t c) []; counts = λ i. 0; stopped = false }
@@ -59,7 +59,7 @@ abbrev pub keeps : List ℕ → Counts → Book → ℕ → ℕ → Bool
 keeps t c b i v = judges (objectRecord t (c .ipdus) i) v (lastOf i (b .entries)) (b .counts i)
 
 abbrev pub nextCounts : ℕ → (ℕ → ℕ) → ℕ → ℕ
-nextCounts i counts j = pick (eqb j i) ((counts j + 1) % 256) (counts j)
+nextCounts i counts j = pick (eqb j i) (nextOccurrence (counts j)) (counts j)
 
 abbrev pub afterSend : List ℕ → Counts → Book → ℕ → ℕ → Book
 afterSend t c b i v =

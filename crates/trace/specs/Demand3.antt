@@ -10,7 +10,7 @@ use Rattle.memory.specs.Bytes.{Bytes, part}
 use Rattle.memory.specs.Search.{anyBelow}
 use Rattle.bits.specs.Bits.{bit, frameBit}
 use Rattle.table.specs.declared.Counts.{Counts}
-use Rattle.table.specs.Records.{counts, ipduRecord, objectRecord}
+use Rattle.table.specs.Records.{receiving, sending, counts, ipduRecord, objectRecord}
 use Rattle.calls.specs.declared.Answer.{Answer}
 use Rattle.calls.specs.Answers.{Outcome, numberOf, valueOf}
 use Rattle.layer.specs.Step.{Call, start, send, tick, Lent, noArea, requests, lentBytes, Told, toldStart, toldStop, toldSend, toldInitialise, toldNothing, describe, step}
@@ -67,7 +67,7 @@ Judged t c b toldNothing n went = Unit {0}
 -- in each frame each bit is that of the value of the last entry (that call's own included) of an owner, any other bit is 0
 pub record CallKept (t : List ℕ) (c : Counts) (b : Book) (call : Call) (o : Outcome) : Type 0 where
   pub judged : Judged t c b (describe call .told) (length (lentBytes (describe call .lent))) (done o)
-  pub named : (k : ℕ) → names (wordOf call (o .answer)) k → (k < c .ipdus) × (ipduRecord t k .direction ≡ 1)
+  pub named : (k : ℕ) → names (wordOf call (o .answer)) k → (k < c .ipdus) × (ipduRecord t k .direction ≡ sending)
   pub bits : (k : ℕ) → names (wordOf call (o .answer)) k → (p : ℕ) → p < 8 * ipduRecord t k .length
       → frameBit (frame t k (o .area)) p ≡ bookBit t c (advance t c b call .entries) k p
 
@@ -80,7 +80,7 @@ AllKept t c b (call ∷ calls) m = CallKept t c b call (step t call m) × AllKep
 
 -- a receiver inside the van: a receive object with that sending object
 abbrev pub inside : List ℕ → Counts → ℕ → Bool
-inside t c i = anyBelow (c .objects) (λ j. eqb (objectRecord t (c .ipdus) j .kind) 2 && eqb (objectRecord t (c .ipdus) j .sender) i)
+inside t c i = anyBelow (c .objects) (λ j. eqb (objectRecord t (c .ipdus) j .kind) receiving && eqb (objectRecord t (c .ipdus) j .sender) i)
 
 -- two calls alike in all that the book is fed, but for values that the sending filter drops in both lists, of objects with no
 -- receiver inside

@@ -7,7 +7,7 @@ use Prim.Native.Nat.{ℕ, _%_, _^_, _<_}
 use Rattle.bits.specs.Bits.{unpacked}
 use Rattle.table.specs.declared.Counts.{Counts}
 use Rattle.table.specs.declared.ObjectRecord.{ObjectRecord}
-use Rattle.table.specs.Records.{counts, ipduRecord, objectRecord}
+use Rattle.table.specs.Records.{receiving, counts, ipduRecord, objectRecord}
 use Rattle.table.specs.Rules.{orderOf}
 use Rattle.state.specs.Layout.{objectState}
 use Rattle.message.specs.Objects.{object, passesFilter}
@@ -50,7 +50,7 @@ memoryOf t calls m = memoryAfter t (start ∷ calls) m
 -- there is a receive object of this number, and its filter passes the value
 pub record Takes (t : List ℕ) (j v : ℕ) (m : List ℕ) : Type 0 where
   pub low : j < counts t .objects
-  pub kind : objectRecord t (counts t .ipdus) j .kind ≡ 2
+  pub kind : objectRecord t (counts t .ipdus) j .kind ≡ receiving
   pub passes : passesFilter (object t (counts t) j) v (objectState (workingMemory m) j) ≡ true
 
 -- the value has arrived between two memories: an unqueued object gives it; in a queue that was not full it waits behind the others

@@ -19,7 +19,7 @@ use Rattle.table.specs.declared.Ipdu.{Ipdu}
 use Rattle.table.specs.declared.IpduRecord.{IpduRecord}
 use Rattle.table.specs.declared.Mode.{Mode}
 use Rattle.table.specs.declared.Mode.the-variants.{Direct, Periodic, Mixed}
-use Rattle.table.specs.Records.{ipduRecord}
+use Rattle.table.specs.Records.{receiving, sending, ipduRecord}
 use Rattle.table.specs.Rules.{ipduRight, sendIpdu, receiveIpdu}
 use Rattle.table.specs.Decode.{modeOf, ipduOf}
 use Rattle.table.proofs.Facts.{IpduFacts, ipdu-facts}
@@ -222,14 +222,14 @@ has-mode n e z = true-not-false {b = hasPeriod (modeOf n)} e (rw z)
 
 -- its I-PDU is sent, and its period is at least 1
 pub record Periods (r : IpduRecord) : Type 0 where
-  pub sent : r .direction ≡ 1
+  pub sent : r .direction ≡ sending
   pub some : 1 ≤ r .period
 
 pub periods : (r : IpduRecord) → ipduRight r ≡ true → hasPeriod (modeOf (r .mode)) ≡ true → Periods r
 periods r right has =
     ⊎-elim
-    (λ (e : (eqb (r .direction) 1 && sendIpdu r) ≡ true).
-    let d = and-split (eqb (r .direction) 1) (sendIpdu r) e in
+    (λ (e : (eqb (r .direction) sending && sendIpdu r) ≡ true).
+    let d = and-split (eqb (r .direction) sending) (sendIpdu r) e in
     let last = and-split (first && zero && (still || cyclic)) delays (d .1) in
     let mid = and-split (first && zero) (still || cyclic) (last .0) in
     ⊎-elim
@@ -237,13 +237,13 @@ periods r right has =
     absurd (has-mode (r .mode) has (eqb-true (r .mode) 0 (and-split (eqb (r .mode) 0) (eqb (r .period) 0) (and-split (eqb (r .mode) 0 && eqb (r .period) 0) (eqb (r .offset) 0) z .0) .0))))
     (λ (y : cyclic ≡ true).
     record {
-      sent = eqb-true (r .direction) 1 (d .0);
+      sent = eqb-true (r .direction) sending (d .0);
       some = leb-true 1 (r .period) (and-split (leb 1 (r .mode)) (leb 1 (r .period)) (and-split (leb 1 (r .mode) && leb 1 (r .period)) (leb 1 (r .offset)) y .0) .1);
     })
     (or-cases still cyclic (mid .1)))
-    (λ (e : (eqb (r .direction) 2 && receiveIpdu r) ≡ true).
-    absurd (has-mode (r .mode) has (no-mode (and-split (eqb (r .direction) 2) (receiveIpdu r) e .1))))
-    (or-cases (eqb (r .direction) 1 && sendIpdu r) (eqb (r .direction) 2 && receiveIpdu r) (ipdu-facts r right .directions))
+    (λ (e : (eqb (r .direction) receiving && receiveIpdu r) ≡ true).
+    absurd (has-mode (r .mode) has (no-mode (and-split (eqb (r .direction) receiving) (receiveIpdu r) e .1))))
+    (or-cases (eqb (r .direction) sending && sendIpdu r) (eqb (r .direction) receiving && receiveIpdu r) (ipdu-facts r right .directions))
   where
     first : Bool
     first = leb 1 (r .deadline)

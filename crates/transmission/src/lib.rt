@@ -6,11 +6,11 @@ mod ticks;
 
 pub use periods::set_periods;
 pub use requests::confirm;
-pub use requests::try_request;
 pub use requests::set_timer;
-pub use ticks::tick_deadline;
-pub use ticks::tick_period;
-pub use ticks::tick_delay;
+pub use requests::try_request;
 pub use ticks::deadline_expires;
-pub use ticks::timer_expires;
+pub use ticks::tick_deadline;
+pub use ticks::tick_delay;
+pub use ticks::tick_period;
 pub use ticks::tick_timer;
+pub use ticks::timer_expires;

@@ -8,15 +8,16 @@ use table::Mode;
 ghost use mathlib.Core.Path.{_≡_};
 ghost use Prim.Native.Nat.{_+_, _*_, _%_, _^_, _≤_, _<_};
 ghost use lib.ListN.{length};
+ghost use Rattle.table.specs.Records.{mostIpdus};
 ghost use Rattle.memory.specs.Search.{pick};
-ghost use Rattle.state.specs.Layout.{memorySize, ipduState, withIpduState};
+ghost use Rattle.state.specs.Layout.{areaSize, memorySize, ipduState, withIpduState};
 ghost use Rattle.transmission.specs.Requests.{mayGo, isDue, requestMade, afterRequest, copiedToArea, confirmed, timerSet};
 
 // Stores the numbers of an I-PDU after a request was wanted. Where the request may go it is made: the I-PDU's bytes are handed
 // over in its slot of the area, and the answer is the word of the I-PDU; else the word is 0.
 pub fn try_request(m: &mut [u8], area: &mut [u8], number: IpduNumber, p: Ipdu, s: IpduState) -> u32
-    requires { ⌜ number .0 < 32 ⌝ }
-    requires { ⌜ (memorySize ≤ length (now m)) × (256 ≤ length (now area)) × (p .length .0 ≤ 8) ⌝ }
+    requires { ⌜ number .0 < mostIpdus ⌝ }
+    requires { ⌜ (memorySize ≤ length (now m)) × (areaSize ≤ length (now area)) × (p .length .0 ≤ 8) ⌝ }
     ensures word { λ r. ⌜ r ≡ pick (isDue p s) (2 ^ (number .0)) 0 ⌝ }
     ensures memory { λ _. ⌜ now (m .exit) ≡ withIpduState (now (m .entry)) (number .0) (afterRequest p s) ⌝ }
     ensures area { λ _. ⌜ now (area .exit) ≡ pick (isDue p s) (copiedToArea (p .length .0) (number .0) (now (m .entry)) (now (area .entry))) (now (area .entry)) ⌝ }
@@ -32,7 +33,7 @@ pub fn try_request(m: &mut [u8], area: &mut [u8], number: IpduNumber, p: Ipdu, s
 
 // Closes the open request of an I-PDU.
 pub fn confirm(m: &mut [u8], number: IpduNumber, p: Ipdu, good: bool)
-    requires { ⌜ (number .0 < 32) × (memorySize ≤ length (now m)) ⌝ }
+    requires { ⌜ (number .0 < mostIpdus) × (memorySize ≤ length (now m)) ⌝ }
     ensures { λ _. ⌜ now (m .exit) ≡ withIpduState (now (m .entry)) (number .0) (confirmed good p (ipduState (now (m .entry)) (number .0))) ⌝ }
 {
     let s = state::ipdu_state(m, number);
@@ -41,7 +42,7 @@ pub fn confirm(m: &mut [u8], number: IpduNumber, p: Ipdu, good: bool)
 
 // Sets the receive timer of an I-PDU to its deadline.
 pub fn set_timer(m: &mut [u8], number: IpduNumber, p: Ipdu)
-    requires { ⌜ (number .0 < 32) × (memorySize ≤ length (now m)) ⌝ }
+    requires { ⌜ (number .0 < mostIpdus) × (memorySize ≤ length (now m)) ⌝ }
     ensures { λ _. ⌜ now (m .exit) ≡ withIpduState (now (m .entry)) (number .0) (timerSet p (ipduState (now (m .entry)) (number .0))) ⌝ }
 {
     let mut s = state::ipdu_state(m, number);
@@ -101,7 +102,7 @@ fn confirmed(good: bool, p: Ipdu, s: IpduState) -> IpduState
 
 // Copies an I-PDU's bytes into its slot of the request area, with zeros to 8.
 fn copy_to_area(m: &[u8], area: &mut [u8], number: IpduNumber, size: ByteLength)
-    requires { ⌜ (number .0 < 32) × (memorySize ≤ length (now m)) × (256 ≤ length (now area)) × (size .0 ≤ 8) ⌝ }
+    requires { ⌜ (number .0 < mostIpdus) × (memorySize ≤ length (now m)) × (areaSize ≤ length (now area)) × (size .0 ≤ 8) ⌝ }
     ensures { λ _. ⌜ now (area .exit) ≡ copiedToArea (size .0) (number .0) (now (m .entry)) (now (area .entry)) ⌝ }
 {
     let at = 8 * (number.0 as usize);

@@ -1,6 +1,7 @@
 -- `calls::frames::good_indication` meets its contract.
 -- Assumes nothing.
 use borrow.Author.Needs.{needs}
+use Rattle.state.specs.Layout.{slots}
 use Rattle.calls.proofs.frames.good_indication.Statement.{statement}
 use Rattle.calls.proofs.frames.good_indication.Tie as tie
 use mathlib.Core.Path.{sym, ap, _∙_}
@@ -50,7 +51,7 @@ deliver-frame-requires c κs =
     let size : length (c .before .before .before .before .before .before .before .before .before .before .before .before .args .bytes .now) ≤ 8 = omega (arith, c .before .before .before .before .before .before .if1 .left ∙ same, low) in
     let below : c .before .before .before .before .before .before .before .before .before .before .before .before .args .number .0 < 32 = omega (arith, c .before .before .before .before .before .before .before .before .before .before .before .before .pre .1, c .before .before .before .before .before .before .before .before .before .before .before .before .pre .0 .right .shape .ipdus) in
     rw (c .before .before .before .copy .ensures)
-    (ready-bytes (c .before .before .before .before .before .before .before .before .before .before .before .before .args .t .now) (c .before .before .before .before .before .before .before .before .before .before .before .before .args .c) (c .before .before .before .before .before .before .before .before .before .before .before .before .args .m .now) (c .before .before .before .before .before .before .before .before .before .before .before .before .pre .0) (528 + 8 * (c .before .before .before .before .before .before .before .before .before .before .before .before .args .number .0)) (c .before .before .before .before .before .before .before .before .before .before .before .before .args .bytes .now) (λ i. c .before .before .before .before .before .before .before .before .before .shared-slice-known2 .given i .fits) (omega (arith, size, below, c .before .before .before .before .before .before .before .before .before .before .before .before .pre .0 .long)) (inl (omega arith, omega (arith, size, below))), c .before .before .before .before .before .before .before .before .before .before .before .before .pre .1)
+    (ready-bytes (c .before .before .before .before .before .before .before .before .before .before .before .before .args .t .now) (c .before .before .before .before .before .before .before .before .before .before .before .before .args .c) (c .before .before .before .before .before .before .before .before .before .before .before .before .args .m .now) (c .before .before .before .before .before .before .before .before .before .before .before .before .pre .0) (slots + 8 * (c .before .before .before .before .before .before .before .before .before .before .before .before .args .number .0)) (c .before .before .before .before .before .before .before .before .before .before .before .before .args .bytes .now) (λ i. c .before .before .before .before .before .before .before .before .before .shared-slice-known2 .given i .fits) (omega (arith, size, below, c .before .before .before .before .before .before .before .before .before .before .before .before .pre .0 .long)) (inl (omega arith, omega (arith, size, below))), c .before .before .before .before .before .before .before .before .before .before .before .before .pre .1)
 
 set-timer-requires : tie.Need-set-timer-requires
 set-timer-requires c κs = search needs

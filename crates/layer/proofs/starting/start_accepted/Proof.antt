@@ -8,6 +8,7 @@ use native.Mathlib.Omega.{arith}
 use borrow.Author.Tests.{le-leb, lt-leb}
 use lib.ListN.{length, take, drop}
 use lib.Seq.{length-take-le}
+use Rattle.state.specs.Layout.{memorySize}
 use Rattle.calls.specs.declared.Answer.the-variants.{Done}
 use Rattle.calls.specs.Answers.{Outcome, outcome}
 use Rattle.layer.proofs.starting.start_accepted.Statement.{statement}
@@ -21,14 +22,14 @@ slice-relend-prefix-write-all c = search needs
 
 slice-aggregate-write-all : tie.Need-slice-aggregate-write-all
 slice-aggregate-write-all c =
-    let long : 8192 ≤ length (c .before .before .before .before .args .m .now) = omega (arith, c .before .if1 .left) in
-    let same : length (take 8192 (c .before .before .before .before .args .m .now)) ≡ 8192 = length-take-le 8192 (c .before .before .before .before .args .m .now) long in
+    let long : memorySize ≤ length (c .before .before .before .before .args .m .now) = omega (arith, c .before .if1 .left) in
+    let same : length (take memorySize (c .before .before .before .before .args .m .now)) ≡ memorySize = length-take-le memorySize (c .before .before .before .before .args .m .now) long in
     sym same
 
 write-all-requires : tie.Need-write-all-requires
 write-all-requires c κs =
-    let long : 8192 ≤ length (c .before .before .before .before .args .m .now) = omega (arith, c .before .if1 .left) in
-    let same : length (take 8192 (c .before .before .before .before .args .m .now)) ≡ 8192 = length-take-le 8192 (c .before .before .before .before .args .m .now) long in
+    let long : memorySize ≤ length (c .before .before .before .before .args .m .now) = omega (arith, c .before .if1 .left) in
+    let same : length (take memorySize (c .before .before .before .before .args .m .now)) ≡ memorySize = length-take-le memorySize (c .before .before .before .before .args .m .now) long in
     (c .before .before .before .before .pre, same)
 
 same-length : tie.Need-same-length
@@ -38,7 +39,7 @@ returns-2 : tie.Need-returns-2
 returns-2 c =
     rw (le-leb _ _ (c .before .before .before .before .if1 .left))
     (ap (λ (m : List ℕ). outcome (Done 0) m [])
-    (ap (λ (f : List ℕ). f ++ drop 8192 (c .before .before .before .before .before .before .before .args .m .now)) (c .before .before .write-all .ensures)))
+    (ap (λ (f : List ℕ). f ++ drop memorySize (c .before .before .before .before .before .before .before .args .m .now)) (c .before .before .write-all .ensures)))
 
 pub start-accepted-spec : {M : Type 1} → statement M
 start-accepted-spec =

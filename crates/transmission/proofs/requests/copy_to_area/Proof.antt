@@ -1,6 +1,7 @@
 -- `transmission::requests::copy_to_area` meets its contract.
 -- Assumes nothing.
 use borrow.Author.Needs.{needs}
+use Rattle.state.specs.Layout.{slots}
 use Rattle.transmission.proofs.requests.copy_to_area.Statement.{statement}
 use Rattle.transmission.proofs.requests.copy_to_area.Tie as tie
 use Prim.Native.Nat.{_+_, _*_}
@@ -31,7 +32,7 @@ same-length c = search needs
 
 returns : tie.Need-returns
 unfolding copiedToArea
-returns c = rw (c .before .before .write64 .ensures, c .before .before .before .low-bytes .ensures, c .before .before .before .before .before .read64 .ensures, bytesOf-front (c .before .before .before .before .before .before .before .before .before .args .size .0) (528 + 8 * (c .before .before .before .before .before .before .before .before .before .args .number .0)) (c .before .before .before .before .before .before .before .before .before .args .m .now) (λ i. c .before .before .before .before .before .before .before .before .shared-slice-known .given i .fits) (c .before .before .before .before .before .before .before .before .before .pre .3) (omega (arith, c .before .before .before .before .before .before .before .before .before .pre .0, c .before .before .before .before .before .before .before .before .before .pre .1)))
+returns c = rw (c .before .before .write64 .ensures, c .before .before .before .low-bytes .ensures, c .before .before .before .before .before .read64 .ensures, bytesOf-front (c .before .before .before .before .before .before .before .before .before .args .size .0) (slots + 8 * (c .before .before .before .before .before .before .before .before .before .args .number .0)) (c .before .before .before .before .before .before .before .before .before .args .m .now) (λ i. c .before .before .before .before .before .before .before .before .shared-slice-known .given i .fits) (c .before .before .before .before .before .before .before .before .before .pre .3) (omega (arith, c .before .before .before .before .before .before .before .before .before .pre .0, c .before .before .before .before .before .before .before .before .before .pre .1)))
 
 pub copy-to-area-spec : {M : Type 1} → statement M
 copy-to-area-spec =
