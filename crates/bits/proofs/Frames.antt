@@ -2,15 +2,15 @@
 -- Assumes nothing.
 use mathlib.Core.Path.{_≡_, refl, sym, ap, _∙_}
 use mathlib.Core.Logic.{⊎-elim}
-use mathlib.Core.List.{List, [], _∷_, _++_}
-use Prim.Native.Nat.{ℕ, zero, suc, _+_, _-_, _*_, _/_, _%_, _^_, _≤_, _<_}
+use mathlib.Core.List.{List, [], _∷_}
+use Prim.Native.Nat.{ℕ, zero, suc, _+_, _-_, _*_, _/_, _%_, _≤_, _<_}
 use native.Mathlib.Nat.{le-of-suc-le-suc, not-suc-le-zero}
 use native.Mathlib.Omega.{arith}
-use lib.ListN.{length, getD, take}
+use lib.ListN.{length, take}
 use Rattle.bits.specs.Bits.{bit, number, frameBit, frameOf}
 use Rattle.memory.specs.Bytes.{Bytes, value, bytesOf}
 use Rattle.memory.proofs.Tests.{lt-or-le}
-use Rattle.bits.proofs.Numbers.{bit-lt, bit-of-zero, bit-low, bit-high, bit-mod, bit-div, number-ext, number-bit, number-lt, number-bits}
+use Rattle.bits.proofs.Numbers.{bit-lt, bit-of-zero, bit-low, bit-high, bit-div, number-ext, number-bit, number-lt, number-bits}
 
 pub frameBit-lt : (f : List ℕ) (p : ℕ) → frameBit f p < 2
 unfolding frameBit

@@ -4,4 +4,5 @@ pub mod Places
 pub mod Slots
 pub mod RoundTrip
 pub mod Words
+pub mod Copies
 pub mod Masks

@@ -4,13 +4,13 @@ use mathlib.Core.Bool.{Bool, true, false, not, _&&_, _||_}
 use mathlib.Core.Logic.{⊎-elim}
 use mathlib.Core.List.{List, [], _∷_, reverse}
 use mathlib.Core.Path.{_≡_, refl, sym, ap, ap₂, _∙_}
-use Prim.Native.Nat.{ℕ, zero, suc, _+_, _-_, _*_, _/_, _%_, _^_, _≤_, _<_, min, max}
-use native.Mathlib.Nat.{pow-succ', div-eq-of-lt, mul-comm, zero-add, le-of-suc-le-suc, lt-of-le-of-lt, lt-of-lt-of-le}
+use Prim.Native.Nat.{ℕ, zero, suc, _+_, _-_, _*_, _/_, _^_, _≤_, _<_, min, max}
+use native.Mathlib.Nat.{pow-succ', mul-comm, zero-add, lt-of-le-of-lt, lt-of-lt-of-le}
 use native.Mathlib.Omega.{arith}
 use borrow.Author.Tests.{eq-eqb, ne-eqb}
 use lib.Bits.{bitAnd, bitOr, and-shr, or-shr, and-step, or-step, and-le-l}
 use lib.Dec.{eqb}
-use lib.ListN.{length, getD, length-reverse}
+use lib.ListN.{length, length-reverse}
 use lib.Pow.{pow-pos, pow-mono, ones-lt, shl-lt}
 use Rattle.memory.specs.Bytes.{Bytes, value, bytesOf}
 use Rattle.memory.specs.Search.{pick, anyBelow}
@@ -19,10 +19,10 @@ use Rattle.memory.proofs.Tests.{lt-or-le, true-or-false, true-not-false}
 use Rattle.memory.proofs.Parts.{bytesOf-length}
 use Rattle.bits.specs.declared.Order.{Order}
 use Rattle.bits.specs.declared.Order.the-variants.{Little, Big}
-use Rattle.bits.specs.Bits.{bit, number, place, owns}
+use Rattle.bits.specs.Bits.{bit, number, owns}
 use Rattle.bits.specs.Slots.{position, bytesReversed, turned, mask}
-use Rattle.bits.proofs.Numbers.{bit-lt, bit-of-zero, bit-low, bit-high, number-bit, bits-ext}
-use Rattle.bits.proofs.Places.{position-lt, position-twice, along, place-at, Run}
+use Rattle.bits.proofs.Numbers.{bit-of-zero, bit-low, bit-high, number-bit, bits-ext}
+use Rattle.bits.proofs.Places.{position-twice, along, place-at, Run}
 use Rattle.bits.proofs.Slots.{turned-bit, turned-bytes}
 
 -- ---- bits of `&` and `|`

@@ -3,7 +3,8 @@
 use mathlib.Core.Logic.{_⊎_, inl, inr, ⊎-elim}
 use mathlib.Core.Path.{_≡_, refl, sym, ap, _∙_}
 use Prim.Native.Nat.{ℕ, zero, suc, _+_, _-_, _*_, _/_, _%_, _^_, _≤_, _<_}
-use native.Mathlib.Nat.{mul-one, pow-succ', div-div-eq-div-mul, add-mul-div-left, add-mul-mod-self-left, mul-assoc, mod-add-div, mod-lt, mod-eq-of-lt, div-eq-of-lt, zero-add, le-of-suc-le-suc, not-suc-le-zero, zero-lt-suc, mul-comm, add-comm, zero-div}
+use native.Mathlib.Nat.{mul-one, pow-succ', div-div-eq-div-mul, add-mul-div-left, add-mul-mod-self-left, mul-assoc, mod-add-div, mod-eq-of-lt}
+use native.Mathlib.Nat.{div-eq-of-lt, zero-add, le-of-suc-le-suc, not-suc-le-zero, zero-lt-suc, mul-comm, zero-div}
 use native.Mathlib.Omega.{arith}
 use lib.Pow.{pow-pos, shr-shr}
 use lib.Arith.{mod-mul}

@@ -1,25 +1,24 @@
 -- The laws of packing that callers cite: the stored reading, every other bit, the round trip; and that a slot's word meets them.
 -- Assumes nothing.
-use mathlib.Core.Bool.{Bool, true, false, not, _&&_}
+use mathlib.Core.Bool.{Bool, true, false, not}
 use mathlib.Core.Logic.{⊎-elim}
 use mathlib.Core.Path.{_≡_, refl, sym, ap, _∙_}
-use mathlib.Core.List.{List, _++_}
-use Prim.Native.Nat.{ℕ, zero, suc, _+_, _-_, _*_, _/_, _%_, _^_, _≤_, _<_}
+use mathlib.Core.List.{List, [], _∷_, _++_}
+use Prim.Native.Nat.{ℕ, zero, suc, _*_, _/_, _%_, _^_, _≤_, _<_}
 use native.Mathlib.Omega.{arith}
 use native.Mathlib.Nat.{not-suc-le-zero}
-use borrow.Author.Tests.{eq-eqb, ne-eqb, ltb-true, leb-true, not-false}
-use lib.Dec.{leb, ltb, eqb}
-use lib.ListN.{length, getD, take, length-append, List·getD-append}
+use borrow.Author.Tests.{eq-eqb, ne-eqb, leb-true, not-false}
+use lib.Dec.{leb, eqb}
+use lib.ListN.{length, take, length-append, List·getD-append}
 use Rattle.memory.specs.Bytes.{Bytes}
 use Rattle.bits.specs.declared.Order.{Order}
-use Rattle.bits.specs.Bits.{bit, number, frameBit, frameOf, place, room, written, packed, unpacked}
+use Rattle.bits.specs.Bits.{bit, frameBit, place, room, written, packed, unpacked}
 use Rattle.bits.specs.Slots.{position, InSlot}
 use Rattle.bits.specs.Frames.{isPlace}
-use Rattle.memory.proofs.Tests.{eq-or-ne, and-split}
+use Rattle.memory.proofs.Tests.{eq-or-ne, each-true}
 use Rattle.bits.proofs.Numbers.{bit-lt, number-ext, number-lt, number-bits}
-use Rattle.bits.proofs.Frames.{frameBit-lt, frame-length, frame-bit, frame-bytes, frame-ext, frame-take, value-bit, bytesOf-frame}
-use Rattle.bits.proofs.Places.{position-lt, position-twice, Along, along, Run, run, room-slot, place-inside}
-use Rattle.bits.proofs.Slots.{turned-bit, field-number, with-field-in, with-field-below, with-field-above}
+use Rattle.bits.proofs.Frames.{frameBit-lt, frame-length, frame-bit, frame-bytes, frame-ext, frame-take}
+use Rattle.bits.proofs.Places.{Along, along, Run, run, room-slot, place-inside}
 
 -- ---- what is written at a place
 
@@ -151,18 +150,14 @@ pub record Allowed (o : Order) (start size L : ℕ) : Type 0 where
 pub allowed : (o : Order) (start size L : ℕ) → isPlace o start size L ≡ true → Allowed o start size L
 unfolding isPlace
 allowed o start size L e =
-    let lengths : Bool = leb 1 L && leb L 8 in
-    let last = and-split (lengths && leb 1 size && leb size 32) (room o start size L) e in
-    let most = and-split (lengths && leb 1 size) (leb size 32) (last .0) in
-    let least = and-split lengths (leb 1 size) (most .0) in
-    let some : 0 < size = leb-true 1 size (least .1) in
-    let short : L ≤ 8 = leb-true L 8 (and-split (leb 1 L) (leb L 8) (least .0) .1) in
-    let along = run o start size some (room-slot o start size L short (last .1)) in
+    let all = each-true (leb 1 L) (leb L 8 ∷ leb 1 size ∷ leb size 32 ∷ room o start size L ∷ []) e in
+    let fits : Fits o start size L = search leb-true in
+    let along = run o start size (fits .some) (room-slot o start size L (fits .short) (fits .inside)) in
     record {
       holds = e;
       begins = along .begins;
-      fits = record { some = some; short = short; inside = last .1 };
-      slot = record { some = some; most = leb-true size 32 (most .1); inside = along .ends };
+      fits = fits;
+      slot = record { some = fits .some; most = search leb-true; inside = along .ends };
     }
 
 pub passed : (o : Order) (start size L : ℕ) (b : Bool) → b ≡ isPlace o start size L → not b ≡ false → Allowed o start size L

@@ -2,18 +2,18 @@
 -- Assumes nothing.
 use mathlib.Core.Logic.{⊎-elim}
 use mathlib.Core.Path.{_≡_, refl, sym, ap, _∙_}
-use mathlib.Core.List.{List, [], _∷_, _++_, reverse, reverse-cons}
+use mathlib.Core.List.{List, [], _∷_, reverse, reverse-cons}
 use Prim.Native.Nat.{ℕ, zero, suc, _+_, _-_, _*_, _/_, _%_, _^_, _≤_, _<_}
-use native.Mathlib.Nat.{mod-le, mul-div-le, mul-le-mul-right, le-trans, lt-of-lt-of-le, add-comm, mul-assoc, mul-add, mul-comm, mod-lt, mod-add-div, add-assoc, le-of-suc-le-suc, not-suc-le-zero}
+use native.Mathlib.Nat.{mod-le, mul-div-le, mul-le-mul-right, le-trans, lt-of-lt-of-le, add-comm, mul-assoc, mul-add, mul-comm, mod-lt, mod-add-div, le-of-suc-le-suc, not-suc-le-zero}
 use native.Mathlib.Omega.{arith}
 use lib.ListN.{length, getD, length-reverse, List·getD-append, List·getD-eq-default}
-use lib.Seq.{getD-append-add, getD-append-seam}
+use lib.Seq.{getD-append-seam}
 use lib.Pow.{pow-pos, pow-mono, pow-add, shl-lt, shr-lt, shr-shr}
 use lib.Arith.{digits-lt}
-use Rattle.memory.specs.Bytes.{Bytes, value, bytesOf}
+use Rattle.memory.specs.Bytes.{Bytes, bytesOf}
 use Rattle.bits.specs.declared.Order.{Order}
 use Rattle.bits.specs.declared.Order.the-variants.{Little, Big}
-use Rattle.bits.specs.Bits.{bit, number, frameBit, frameOf}
+use Rattle.bits.specs.Bits.{bit, number, frameBit}
 use Rattle.bits.specs.Slots.{position, bytesReversed, turned, bitField, withBitField}
 use Rattle.memory.proofs.Tests.{lt-or-le}
 use Rattle.bits.proofs.Numbers.{bit-lt, bit-low, bit-high, bit-mod, bit-div, number-ext, number-bits}

@@ -3,10 +3,11 @@
 use mathlib.Core.Logic.{⊎-elim}
 use mathlib.Core.Path.{_≡_, sym, ap, _∙_}
 use mathlib.Core.List.{List}
-use Prim.Native.Nat.{ℕ, _+_, _-_, _<_}
+use Prim.Native.Nat.{ℕ, _+_, _-_, _≤_, _<_}
 use native.Mathlib.Omega.{arith}
 use lib.ListN.{length}
-use Rattle.memory.specs.Bytes.{Bytes, value, bytesOf}
+use Rattle.memory.specs.Bytes.{Bytes, value, bytesOf, numberAt, part, replaced}
+use Rattle.memory.proofs.Parts.{part-bytes, part-length}
 use Rattle.bits.specs.declared.Order.{Order}
 use Rattle.bits.specs.Bits.{bit, frameBit, frameOf, place, written, packed, unpacked}
 use Rattle.bits.specs.Slots.{position, turned, bitField, withBitField, InSlot}
@@ -84,3 +85,17 @@ module _ (o : Order) (at size : ℕ) (f : List ℕ) (bytes : Bytes f) (eight : l
   pub slot-packed : (v : ℕ)
       → bytesOf 8 (turned o (withBitField (turned o (value f)) at size v)) ≡ packed o (position o at) size v f
   slot-packed v = rw back at (run-packed o (position o at) size f bytes eight (slot-run o at size slot) v)
+
+-- the word of a slot: read, turned, and its field taken or put
+module _ (o : Order) (base at size : ℕ) (m : List ℕ) {read walk : ℕ} (bytes : Bytes m) (room : base + 8 ≤ length m) (slot : InSlot at size)
+    (word : read ≡ numberAt 8 base m) (turn : walk ≡ turned o read) where
+  pub field-unpacked : {v : ℕ} → v ≡ bitField walk at size → v ≡ unpacked o (position o at) size (part base 8 m)
+  unfolding numberAt
+  field-unpacked e =
+      rw (e, turn, word) (slot-unpacked o at size (part base 8 m) (part-bytes base 8 m bytes) (part-length base 8 m room) slot)
+
+  pub field-packed : (v : ℕ) {new back : ℕ} {after : List ℕ} → new ≡ withBitField walk at size v → back ≡ turned o new
+      → after ≡ replaced base (bytesOf 8 back) m → after ≡ replaced base (packed o (position o at) size v (part base 8 m)) m
+  unfolding numberAt
+  field-packed v new back after =
+      rw (after, back, new, turn, word, slot-packed o at size (part base 8 m) (part-bytes base 8 m bytes) (part-length base 8 m room) slot v)

@@ -1,16 +1,18 @@
 -- Laws of filters that callers cite.
 -- Assumes nothing.
-use mathlib.Core.Bool.{Bool, true, false, not, _&&_}
+use mathlib.Core.Bool.{true, not, _&&_}
 use mathlib.Core.Logic.{⊎-elim}
 use mathlib.Core.Path.{_≡_, refl, sym}
 use Prim.Native.Nat.{ℕ, _≤_, _<_}
 use native.Mathlib.Omega.{arith}
-use borrow.Author.Tests.{leb-true, le-leb, lt-leb, not-false}
-use lib.Dec.{leb, ltb}
+use borrow.Author.Tests.{eqb-true, leb-true, le-leb, lt-leb, not-false}
+use lib.Dec.{leb, ltb, eqb}
 use Rattle.memory.proofs.Search.{any-false}
 use Rattle.memory.proofs.Tests.{and-split, lt-or-le, eq-or-ne}
 use Rattle.filter.specs.declared.Filter.{Filter}
-use Rattle.filter.specs.declared.Filter.the-variants.{Always, Never, MaskedNewEqualsX, MaskedNewDiffersX, NewIsEqual, NewIsDifferent, MaskedNewEqualsMaskedOld, MaskedNewDiffersMaskedOld, NewIsWithin, NewIsOutside, NewIsGreater, NewIsLessOrEqual, NewIsLess, NewIsGreaterOrEqual, OneEveryN}
+use Rattle.filter.specs.declared.Filter.the-variants.{Always, Never, MaskedNewEqualsX, MaskedNewDiffersX, NewIsEqual, NewIsDifferent}
+use Rattle.filter.specs.declared.Filter.the-variants.{MaskedNewEqualsMaskedOld, MaskedNewDiffersMaskedOld, NewIsWithin, NewIsOutside}
+use Rattle.filter.specs.declared.Filter.the-variants.{NewIsGreater, NewIsLessOrEqual, NewIsLess, NewIsGreaterOrEqual, OneEveryN}
 use Rattle.filter.specs.Filters.{HasPeriod, constants, filterOf, filterRight}
 
 constants-period : (f : Filter) (c d : ℕ) → constants f c d ≡ true → HasPeriod f
@@ -51,3 +53,8 @@ no-constants number =
     (λ (ne : number ≡ 14 → ⊥). rw (lt-leb number 13 (omega arith), lt-leb number 14 (omega arith)))
     (eq-or-ne number 14))
     (lt-or-le number 14)
+
+pub number-decides : (number c d : ℕ) → (eqb c 0 && eqb d 0) ≡ true → leb number 13 ≡ filterRight number c d
+number-decides number c d e =
+    let zeros = and-split (eqb c 0) (eqb d 0) e in
+    rw (eqb-true c 0 (zeros .0), eqb-true d 0 (zeros .1)) (no-constants number)

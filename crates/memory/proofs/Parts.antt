@@ -4,13 +4,13 @@ use mathlib.Core.Logic.{_⊎_, inl, inr, ⊎-elim}
 use mathlib.Core.Path.{_≡_, refl, sym, ap, _∙_}
 use mathlib.Core.List.{List, [], _∷_, _++_, append-assoc, append-nil}
 use Prim.Native.Nat.{ℕ, zero, suc, _+_, _-_, _*_, _/_, _%_, _^_, _≤_, _<_, min}
-use native.Mathlib.Nat.{zero-mod, mod-lt, one-le-pow, zero-lt-suc, pow-succ', mul-comm, le-of-suc-le-suc}
+use native.Mathlib.Nat.{zero-add, zero-mod, mod-lt, one-le-pow, zero-lt-suc, pow-succ', mul-comm, le-of-suc-le-suc}
 use native.Mathlib.Numerals.{add-one}
 use native.Mathlib.Omega.{arith}
-use lib.ListN.{drop-of-length-le, replicate, length, getD, set, take, drop, length-take, length-drop, length-append, List·getD-append, List·getD-eq-default}
+use lib.ListN.{drop-of-length-le, replicate, length, getD, set, take, drop, length-take, length-drop, length-append, length-replicate, getD-replicate, List·getD-append, List·getD-eq-default}
 use lib.Arith.{mod-mul}
 use lib.Pow.{pow-add}
-use lib.Seq.{ext-getD, sets, sets-eq, take-nil, take-all, take-at, drop-at, length-take-le, getD-take, getD-drop, getD-append-add}
+use lib.Seq.{ext-getD, sets, sets-eq, take-nil, take-suc, take-all, take-at, drop-at, length-take-le, getD-take, getD-drop, getD-append-add}
 use Rattle.memory.proofs.Tests.{lt-or-le}
 use Rattle.memory.specs.Bytes.{Bytes, value, bytesOf, part, numberAt, replaced}
 
@@ -29,25 +29,29 @@ pub number-none : (at : ℕ) (m : List ℕ) → numberAt 0 at m ≡ 0
 unfolding numberAt part value
 number-none at m = refl
 
-pub number-one : (at : ℕ) (m : List ℕ)
-    → numberAt 1 at m ≡ getD m at 0
-number-one at m =
-    omega (arith, number-none (at + 1) m, number-step 0 at m)
+pub number-one : (at : ℕ) (m : List ℕ) → numberAt 1 at m ≡ getD m at 0
+number-one at m = omega (arith, number-none (at + 1) m, number-step 0 at m)
 
-pub number-two : (at : ℕ) (m : List ℕ)
-    → numberAt 2 at m ≡ getD m at 0 + 256 * (getD m (at + 1) 0)
-number-two at m =
-    omega (arith, number-none (at + 1 + 1) m, number-step 1 at m, number-step 0 (at + 1) m)
+pub number-two : (at : ℕ) (m : List ℕ) → numberAt 2 at m ≡ getD m at 0 + 256 * (getD m (at + 1) 0)
+number-two at m = omega (arith, number-one (at + 1) m, number-step 1 at m)
 
 pub number-four : (at : ℕ) (m : List ℕ)
     → numberAt 4 at m ≡ getD m at 0 + 256 * (getD m (at + 1) 0 + 256 * (getD m (at + 1 + 1) 0 + 256 * (getD m (at + 1 + 1 + 1) 0)))
-number-four at m =
-    omega (arith, number-none (at + 1 + 1 + 1 + 1) m, number-step 3 at m, number-step 2 (at + 1) m, number-step 1 (at + 1 + 1) m, number-step 0 (at + 1 + 1 + 1) m)
+number-four at m = omega (arith, number-two (at + 1 + 1) m, number-step 3 at m, number-step 2 (at + 1) m)
 
 pub number-eight : (at : ℕ) (m : List ℕ)
-    → numberAt 8 at m ≡ getD m at 0 + 256 * (getD m (at + 1) 0 + 256 * (getD m (at + 1 + 1) 0 + 256 * (getD m (at + 1 + 1 + 1) 0 + 256 * (getD m (at + 1 + 1 + 1 + 1) 0 + 256 * (getD m (at + 1 + 1 + 1 + 1 + 1) 0 + 256 * (getD m (at + 1 + 1 + 1 + 1 + 1 + 1) 0 + 256 * (getD m (at + 1 + 1 + 1 + 1 + 1 + 1 + 1) 0)))))))
+    → numberAt 8 at m ≡ getD m at 0 + 256 * (getD m (at + 1) 0 + 256 * (getD m (at + 1 + 1) 0 + 256 * (getD m (at + 1 + 1 + 1) 0
+    + 256 * (getD m (at + 1 + 1 + 1 + 1) 0 + 256 * (getD m (at + 1 + 1 + 1 + 1 + 1) 0
+    + 256 * (getD m (at + 1 + 1 + 1 + 1 + 1 + 1) 0 + 256 * (getD m (at + 1 + 1 + 1 + 1 + 1 + 1 + 1) 0)))))))
 number-eight at m =
-    omega (arith, number-none (at + 1 + 1 + 1 + 1 + 1 + 1 + 1 + 1) m, number-step 7 at m, number-step 6 (at + 1) m, number-step 5 (at + 1 + 1) m, number-step 4 (at + 1 + 1 + 1) m, number-step 3 (at + 1 + 1 + 1 + 1) m, number-step 2 (at + 1 + 1 + 1 + 1 + 1) m, number-step 1 (at + 1 + 1 + 1 + 1 + 1 + 1) m, number-step 0 (at + 1 + 1 + 1 + 1 + 1 + 1 + 1) m)
+    omega (
+      arith,
+      number-four (at + 1 + 1 + 1 + 1) m,
+      number-step 7 at m,
+      number-step 6 (at + 1) m,
+      number-step 5 (at + 1 + 1) m,
+      number-step 4 (at + 1 + 1 + 1) m,
+    )
 
 pub bytesOf-length : (k x : ℕ) → length (bytesOf k x) ≡ k
 unfolding bytesOf
@@ -119,6 +123,28 @@ replaced-whole f m e =
     let past : length m ≤ 0 + length f = omega arith in
     let all : drop (0 + length f) m ≡ [] = drop-of-length-le m past in
     rw all (append-nil f)
+
+-- bytes stored one after the other: one more, and all
+module _ (m f : List ℕ) (at i : ℕ) {n : List ℕ} (stored : n ≡ sets m at (take i f)) where
+  pub stored-more : i < length f → set n (at + i) (getD f i 0) ≡ sets m at (take (i + 1) f)
+  stored-more h =
+      let long : length (take i f) ≡ i = length-take-le i f (omega (arith, h)) in
+      rw (add-one i, take-suc f i 0 h, sets-snoc (take i f) m at (getD f i 0), long, stored)
+
+  pub stored-all : length f ≤ i → at + length f ≤ length m → n ≡ replaced at f m
+  stored-all end room = rw (stored, take-all i f end) (sets-replaced at f m room)
+
+-- zeros stored from the front on
+module _ (m : List ℕ) (i : ℕ) {n : List ℕ} (stored : n ≡ sets m 0 (take i (replicate (length m) 0))) where
+  pub cleared-more : i < length m → set n i 0 ≡ sets m 0 (take (i + 1) (replicate (length m) 0))
+  cleared-more h =
+      rw (getD-replicate {A = ℕ} (length m) i 0 0 h, zero-add i) at
+      (stored-more m (replicate (length m) 0) 0 i stored (omega (arith, length-replicate {A = ℕ} (length m) 0)))
+
+  pub cleared-all : length m ≤ i → n ≡ replicate (length m) 0
+  cleared-all end =
+      let long = length-replicate {A = ℕ} (length m) 0 in
+      stored-all m (replicate (length m) 0) 0 i stored (omega (arith, long)) (omega (arith, long)) ∙ replaced-whole _ m long
 
 pub value-bytesOf : (k x : ℕ) → value (bytesOf k x) ≡ x % 256 ^ k
 unfolding value bytesOf

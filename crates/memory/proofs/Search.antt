@@ -1,13 +1,14 @@
 -- Laws of `any`, `least`, `sum` and `fold`: what a loop over records has shown.
 -- Assumes nothing.
-use mathlib.Core.Bool.{Bool, true, false, _||_}
+use mathlib.Core.Bool.{Bool, true, false}
 use mathlib.Core.Logic.{_⊎_, inl, inr, ⊎-elim}
-use mathlib.Core.Path.{_≡_, refl, sym, ap, _∙_}
+use mathlib.Core.Path.{_≡_, refl, ap, _∙_}
 use Prim.Native.Nat.{ℕ, zero, suc, _+_, _≤_, _<_, zero-le, suc-le-suc}
-use native.Mathlib.Nat.{le-refl, le-of-suc-le-suc, not-suc-le-zero, le-of-lt}
+use native.Mathlib.Nat.{le-refl, le-of-suc-le-suc, not-suc-le-zero}
+use native.Mathlib.Numerals.{add-one}
 use native.Mathlib.Omega.{arith}
 use Rattle.memory.specs.Search.{pick, anyBelow, least, sumBelow, fold}
-use Rattle.memory.proofs.Tests.{lt-or-le, eq-or-ne, true-or-false, true-not-false, or-split}
+use Rattle.memory.proofs.Tests.{eq-or-ne, true-or-false, true-not-false, or-split}
 
 -- what holds of each number below n, and of n, holds of each below suc n
 pub below-suc {ℓ} : {P : ℕ → Type ℓ} {n : ℕ} → ((k : ℕ) → k < n → P k) → P n → (k : ℕ) → k < suc n → P k
@@ -23,6 +24,10 @@ any-false zero f e k h = absurd (not-suc-le-zero h)
 any-false (suc n) f e k h =
     let parts = or-split (anyBelow n f) (f n) e in
     below-suc {P = λ k. f k ≡ false} (any-false n f (parts .0)) (parts .1) k h
+
+-- one number more
+pub any-more : (f : ℕ → Bool) (n : ℕ) → anyBelow n f ≡ false → f n ≡ false → anyBelow (n + 1) f ≡ false
+any-more f n none e = rw (add-one, none) e
 
 pub any-some : (n : ℕ) (f : ℕ → Bool) (k : ℕ) → k < n → f k ≡ true → anyBelow n f ≡ true
 any-some n f k h e = ⊎-elim (λ t. t) (λ t. absurd (true-not-false e (any-false n f t k h))) (true-or-false (anyBelow n f))

@@ -1,11 +1,12 @@
 -- Small laws: an equation or none, `&&`, and a table's entries.
 -- Assumes nothing.
-use mathlib.Core.Bool.{Bool, true, false, _&&_, _||_}
+use mathlib.Core.Bool.{Bool, true, false, not, _&&_, _||_}
 use mathlib.Core.Logic.{_⊎_, inl, inr}
-use mathlib.Core.Path.{_≡_, refl}
+use mathlib.Core.Path.{_≡_, refl, sym, _∙_}
 use mathlib.Core.List.{List, [], _∷_}
 use Prim.Native.Nat.{ℕ, zero, suc, _≤_, _<_}
 use native.Mathlib.Nat.{le-of-suc-le-suc, not-suc-le-zero}
+use borrow.Author.Tests.{not-true, not-false}
 use lib.ListN.{getD}
 use native.Mathlib.Decide.{decLt, ℕ-discrete}
 use native.Mathlib.Omega.{arith}
@@ -19,6 +20,23 @@ eq-or-ne a b = elim (ℕ-discrete a b) [ yes h ↦ inl h | no h ↦ inr h ]
 pub and-split : (a b : Bool) → (a && b) ≡ true → (a ≡ true) × (b ≡ true)
 and-split true b e = (refl, e)
 and-split false b e = let z : false ≡ true = e in (e, cc)
+
+-- a chain of tests, `b && c && ..`: where it holds, each holds
+abbrev pub chain : Bool → List Bool → Bool
+chain b [] = b
+chain b (c ∷ cs) = chain (b && c) cs
+
+abbrev pub Each : Bool → List Bool → Type 0
+Each b [] = b ≡ true
+Each b (c ∷ cs) = (b ≡ true) × Each c cs
+
+pub each-true : (b : Bool) (cs : List Bool) → chain b cs ≡ true → Each b cs
+each-true b [] e = e
+each-true b (c ∷ cs) e = go cs (each-true (b && c) cs e)
+  where
+    go : (cs : List Bool) → Each (b && c) cs → (b ≡ true) × Each c cs
+    go [] h = and-split b c h
+    go (d ∷ ds) h = let both = and-split b c (h .0) in (both .0, (both .1, h .1))
 
 pub true-or-false : (b : Bool) → (b ≡ true) ⊎ (b ≡ false)
 true-or-false true = inl refl
@@ -34,6 +52,13 @@ or-split false b e = (refl, e)
 
 pub true-not-false : {b : Bool} → b ≡ true → b ≡ false → ⊥
 true-not-false {b} e f = let z : _≡_ {A = Bool} true false = cc in let y : _≡_ {A = ℕ} 0 1 = cc in omega arith
+
+-- what a callee's test says where `if !test` was not taken, and where it was
+pub tested-true : {b p : Bool} → b ≡ p → not b ≡ false → p ≡ true
+tested-true {b} e f = sym e ∙ not-false b f
+
+pub tested-false : {b p : Bool} → b ≡ p → not b ≡ true → p ≡ false
+tested-false {b} e f = sym e ∙ not-true b f
 
 pub and-false : (a : Bool) → (a && false) ≡ false
 and-false true = refl

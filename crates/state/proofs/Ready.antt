@@ -1,30 +1,30 @@
 -- A working memory in range stays so: where a row is set to numbers in their ranges, and where bytes outside the rows change.
 -- Assumes nothing.
-use mathlib.Core.Bool.{Bool, true, false, not, _&&_}
-use mathlib.Core.List.{List}
+use mathlib.Core.Bool.{true, not}
+use mathlib.Core.List.{List, [], _∷_}
 use mathlib.Core.Logic.{_⊎_, inl, inr, ⊎-elim}
-use mathlib.Core.Path.{_≡_, refl, sym, ap, ap₂, _∙_}
-use Prim.Native.Nat.{ℕ, _+_, _-_, _*_, _^_, _≤_, _<_, max}
+use mathlib.Core.Path.{_≡_, ap}
+use Prim.Native.Nat.{ℕ, _+_, _-_, _^_, _≤_, _<_}
 use native.Mathlib.Omega.{arith}
 use borrow.Author.Tests.{leb-true, le-leb, eqb-true, eq-eqb, not-true, not-false}
 use lib.Dec.{leb, eqb}
 use lib.ListN.{length}
 use Rattle.memory.specs.Bytes.{Bytes, value, part, numberAt, replaced}
-use Rattle.memory.proofs.Parts.{number-lt, part-apart, replaced-length, replaced-bytes}
+use Rattle.memory.proofs.Parts.{part-apart, replaced-length, replaced-bytes}
+use Rattle.memory.specs.Search.{anyBelow}
 use Rattle.memory.proofs.Search.{any-none, any-false}
-use Rattle.memory.proofs.Tests.{and-split, eq-or-ne}
+use Rattle.memory.proofs.Tests.{each-true, eq-or-ne}
 use Rattle.table.specs.declared.Counts.{Counts}
-use Rattle.table.specs.declared.Direction.the-variants.{Send, Receive}
-use Rattle.table.specs.declared.Ipdu.{Ipdu}
 use Rattle.table.specs.Records.{mostQueued, ipduRecord, objectRecord}
 use Rattle.table.specs.Check.{depths}
 use Rattle.table.specs.Decode.{ipduOf, Right}
-use Rattle.table.proofs.Accepted.{Usable, usable}
+use Rattle.table.proofs.Accepted.{usable}
 use Rattle.state.specs.declared.IpduState.{IpduState}
 use Rattle.state.specs.declared.ObjectState.{ObjectState}
 use Rattle.state.specs.Layout.{rowSize, queues, objectRows, slots, memorySize, runningAt, ipduRow, ipduState, withIpduState, objectRow, objectState, withObjectState}
-use Rattle.state.specs.Ranges.{inRangeAs, ipduInRange, objectInRange, ipduOut, objectOut, inRange, Ready}
-use Rattle.state.proofs.RowLaws.{IpduFits, ObjectFits, ipdu-length, ipdu-part, ipdu-stored, ipdu-bytes, ipdu-fits, ipdu-read, ipdu-other, ipdu-keeps-objects, object-length, object-part, object-stored, object-bytes, object-fits, object-read, object-other, object-keeps-ipdus}
+use Rattle.state.specs.Ranges.{ipduInRange, objectInRange, ipduOut, objectOut, inRange, Ready}
+use Rattle.state.proofs.RowLaws.{IpduFits, ipdu-length, ipdu-part, ipdu-stored, ipdu-bytes, ipdu-read, ipdu-other, ipdu-keeps-objects}
+use Rattle.state.proofs.RowLaws.{ObjectFits, object-length, object-part, object-stored, object-bytes, object-fits, object-read, object-other, object-keeps-ipdus}
 use Rattle.state.proofs.Turns.{depth-sum}
 
 -- ---- an object's numbers in their ranges
@@ -42,24 +42,10 @@ pub record ObjectKept (depth first : ℕ) (s : ObjectState) : Type 0 where
 object-kept : (depth first : ℕ) (s : ObjectState) → ObjectFits s → objectInRange depth first s ≡ true → ObjectKept depth first s
 unfolding objectInRange
 object-kept depth first s f e =
-    let b1 : Bool = leb (s .marks) 15 in
-    let b2 : Bool = leb (s .overflow) 1 in
-    let b3 : Bool = leb (s .count) depth in
-    let b4 : Bool = leb (s .head) (depth - 1) in
-    let a4 = and-split (b1 && b2 && b3 && b4) (eqb (s .queue) first) e in
-    let a3 = and-split (b1 && b2 && b3) b4 (a4 .0) in
-    let a2 = and-split (b1 && b2) b3 (a3 .0) in
-    let a1 = and-split b1 b2 (a2 .0) in
-    record {
-      value = f .value;
-      old = f .old;
-      occurrence = f .occurrence;
-      marks = leb-true (s .marks) 15 (a1 .0);
-      overflow = leb-true (s .overflow) 1 (a1 .1);
-      count = leb-true (s .count) depth (a2 .1);
-      head = leb-true (s .head) (depth - 1) (a3 .1);
-      queue = eqb-true (s .queue) first (a4 .1);
-    }
+    let all =
+    each-true (leb (s .marks) 15)
+    (leb (s .overflow) 1 ∷ leb (s .count) depth ∷ leb (s .head) (depth - 1) ∷ eqb (s .queue) first ∷ []) e in
+    search (leb-true, eqb-true)
 
 pub kept-object : (depth first : ℕ) (s : ObjectState) → ObjectKept depth first s → objectInRange depth first s ≡ true
 unfolding objectInRange
@@ -194,16 +180,16 @@ pub in-range-ready : (t : List ℕ) (c : Counts) (m : List ℕ) → Right t c �
     → inRange t c m ≡ true → Ready t c m
 unfolding inRange
 in-range-ready t c m right bt long bm e =
-    let last = and-split (leb (runningAt m) 1 && not (Rattle.memory.specs.Search.anyBelow (c .ipdus) (ipduOut t m))) (not (Rattle.memory.specs.Search.anyBelow (c .objects) (objectOut t c m))) e in
-    let front = and-split (leb (runningAt m) 1) (not (Rattle.memory.specs.Search.anyBelow (c .ipdus) (ipduOut t m))) (last .0) in
+    let all =
+    each-true (leb (runningAt m) 1) (not (anyBelow (c .ipdus) (ipduOut t m)) ∷ not (anyBelow (c .objects) (objectOut t c m)) ∷ []) e in
     record {
       right = right;
       tables = bt;
       long = long;
       bytes = bm;
-      running = front .0;
-      ipdus = λ k h. not-false _ (any-false (c .ipdus) (ipduOut t m) (not-true _ (front .1)) k h);
-      objects = λ i h. not-false _ (any-false (c .objects) (objectOut t c m) (not-true _ (last .1)) i h);
+      running = all .0;
+      ipdus = λ k h. not-false _ (any-false (c .ipdus) (ipduOut t m) (not-true _ (all .1 .0)) k h);
+      objects = λ i h. not-false _ (any-false (c .objects) (objectOut t c m) (not-true _ (all .1 .1)) i h);
     }
 
 pub ready-in-range : (t : List ℕ) (c : Counts) (m : List ℕ) → Ready t c m → inRange t c m ≡ true

@@ -7,7 +7,7 @@ use Prim.Native.Nat.{ℕ, _+_, _%_, _≤_, _<_}
 use native.Mathlib.Omega.{arith}
 use borrow.Author.Tests.{le-leb}
 use lib.ListN.{length}
-use Rattle.memory.specs.Bytes.{Bytes, bytesOf, part, numberAt, replaced}
+use Rattle.memory.specs.Bytes.{bytesOf, part, numberAt, replaced}
 use Rattle.memory.proofs.Parts.{bytesOf-length, bytesOf-bytes, part-apart, replaced-length, replaced-bytes, number-replaced}
 use Rattle.table.specs.declared.Counts.{Counts}
 use Rattle.state.specs.Layout.{memorySize, runningAt, withRunning, ipduRow, objectRow, objectState}

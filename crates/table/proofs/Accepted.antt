@@ -1,15 +1,15 @@
 -- The check accepts a table exactly where it has no wrong record (`accepted-right`, `right-accepted`), and what such a table
 -- gives to its users: every I-PDU number, sending object and bit place in range, every filter usable.
 -- Assumes nothing.
-use mathlib.Core.Bool.{Bool, true, false, not, _&&_, _||_}
+use mathlib.Core.Bool.{true, false, not, _&&_, _||_}
 use mathlib.Core.List.{List}
 use mathlib.Core.Logic.{⊎-elim}
-use mathlib.Core.Path.{_≡_, refl, sym, ap, _∙_}
-use Prim.Native.Nat.{ℕ, zero, suc, _+_, _≤_, _<_, zero-le}
+use mathlib.Core.Path.{_≡_, refl, ap}
+use Prim.Native.Nat.{ℕ, zero, suc, _≤_, _<_, zero-le}
 use native.Mathlib.Omega.{arith}
-use borrow.Author.Tests.{leb-true, ltb-true, ltb-false, eqb-true, le-ltb, not-false}
-use lib.Dec.{leb, ltb, eqb}
-use Rattle.memory.specs.Search.{pick, least}
+use borrow.Author.Tests.{ltb-true, ltb-false, eqb-true, le-ltb, not-false}
+use lib.Dec.{ltb, eqb}
+use Rattle.memory.specs.Search.{least}
 use Rattle.memory.proofs.Search.{least-none, least-before, sum-more}
 use Rattle.memory.proofs.Tests.{and-split, or-split, true-or-false}
 use Rattle.bits.specs.Bits.{room}
@@ -18,13 +18,12 @@ use Rattle.filter.specs.Filters.{HasPeriod, filterOf}
 use Rattle.filter.proofs.Laws.{right-has-period}
 use Rattle.table.specs.declared.Counts.{Counts}
 use Rattle.table.specs.declared.ObjectRecord.{ObjectRecord}
-use Rattle.table.specs.declared.Verdict.{Verdict}
 use Rattle.table.specs.declared.Verdict.the-variants.{Accepted, WrongHeader, WrongIpdu, WrongObject}
 use Rattle.table.specs.Records.{mostQueued, sending, counts, ipduRecord, objectRecord}
-use Rattle.table.specs.Rules.{headerRight, ipduRight, orderOf, references, withoutIpdu, withinIpdu, senderRight, objectRight}
-use Rattle.table.specs.Check.{Shape, wrongIpdu, wrongAlone, overlapsLower, depths, pastDepth, wrongObject, checkObjects, checkIpdus, checkRecords, check}
+use Rattle.table.specs.Rules.{headerRight, orderOf, references, withoutIpdu, withinIpdu}
+use Rattle.table.specs.Check.{wrongIpdu, wrongAlone, overlapsLower, depths, pastDepth, wrongObject, checkObjects, checkIpdus, check}
 use Rattle.table.specs.Decode.{Right}
-use Rattle.table.proofs.Facts.{IpduFacts, ipdu-facts, ObjectFacts, object-facts, ByteFacts, byte-facts, or-right, InIpdu, in-ipdu, picked}
+use Rattle.table.proofs.Facts.{ObjectFacts, object-facts, ByteFacts, byte-facts, or-right, InIpdu, in-ipdu, picked}
 use Rattle.table.proofs.Verdicts.{header-shape}
 
 -- ---- accepted where nothing is wrong

@@ -2,26 +2,26 @@
 -- Assumes nothing.
 use mathlib.Core.Bool.{Bool, true, false, not, _&&_, _||_}
 use mathlib.Core.Logic.{⊎-elim}
-use mathlib.Core.List.{List}
-use mathlib.Core.Path.{_≡_, refl, sym, ap, _∙_}
-use Prim.Native.Nat.{ℕ, suc, _+_, _*_, _≤_, _<_}
+use mathlib.Core.List.{List, [], _∷_}
+use mathlib.Core.Path.{_≡_, refl}
+use Prim.Native.Nat.{ℕ, _≤_, _<_}
 use native.Mathlib.Omega.{arith}
-use borrow.Author.Tests.{leb-true, ltb-true, eqb-true, eqb-false, ne-eqb, le-ltb, lt-ltb, not-true, not-false}
+use borrow.Author.Tests.{leb-true, ltb-true, eqb-true, not-true, not-false}
 use lib.Dec.{leb, ltb, eqb}
 use lib.ListN.{length}
 use Rattle.memory.specs.Search.{pick}
-use Rattle.memory.proofs.Tests.{and-split, true-not-false, lt-or-le}
+use Rattle.memory.proofs.Tests.{and-split, each-true, true-not-false, lt-or-le}
 use Rattle.bits.specs.Bits.{room}
 use Rattle.bits.specs.Slots.{position, InSlot}
-use Rattle.bits.proofs.Places.{Run, run, room-slot}
+use Rattle.bits.proofs.Places.{run, room-slot}
 use Rattle.filter.specs.Filters.{filterRight}
 use Rattle.table.specs.declared.Counts.{Counts}
 use Rattle.table.specs.declared.IpduRecord.{IpduRecord}
 use Rattle.table.specs.declared.ObjectRecord.{ObjectRecord}
 use Rattle.table.specs.declared.References.{References}
-use Rattle.table.specs.Records.{receiving, sending, tableLength, counts, ipduRecord, objectRecord}
-use Rattle.table.specs.Rules.{ipduRight, sendIpdu, receiveIpdu, ipduBytes, orderOf, references, sendObject, receiveObject, withoutIpdu, withinIpdu, senderRight, bytesRight, objectRight}
-use Rattle.table.specs.Check.{Shape, isSent, wrongIpdu, wrongAlone}
+use Rattle.table.specs.Records.{receiving, sending, ipduRecord, objectRecord}
+use Rattle.table.specs.Rules.{ipduRight, sendIpdu, receiveIpdu, orderOf, references, sendObject, receiveObject, withoutIpdu, withinIpdu, senderRight, bytesRight, objectRight}
+use Rattle.table.specs.Check.{isSent}
 use Rattle.table.specs.Masks.{RightAlone, Placed}
 
 -- ---- object records
@@ -36,17 +36,11 @@ pub record ObjectFacts (r : ObjectRecord) (x : References) : Type 0 where
 pub object-facts : (r : ObjectRecord) (x : References) → objectRight r x ≡ true → ObjectFacts r x
 unfolding objectRight
 object-facts r x e =
-    let a4 = and-split ((bytesRight r) && (sendObject r || receiveObject r) && (withoutIpdu r || withinIpdu r x) && (senderRight r x)) (filterRight (r .filter) (r .first) (r .second)) (e) in
-    let a3 = and-split ((bytesRight r) && (sendObject r || receiveObject r) && (withoutIpdu r || withinIpdu r x)) (senderRight r x) (a4 .0) in
-    let a2 = and-split ((bytesRight r) && (sendObject r || receiveObject r)) ((withoutIpdu r || withinIpdu r x)) (a3 .0) in
-    let a1 = and-split ((bytesRight r)) ((sendObject r || receiveObject r)) (a2 .0) in
-    record {
-      bytes = a1 .0;
-      kinds = a1 .1;
-      places = a2 .1;
-      senders = a3 .1;
-      filters = a4 .1;
-    }
+    let all =
+    each-true (bytesRight r)
+    ((sendObject r || receiveObject r) ∷ (withoutIpdu r || withinIpdu r x) ∷ senderRight r x
+    ∷ filterRight (r .filter) (r .first) (r .second) ∷ []) e in
+    search
 
 -- the limits of its bytes
 pub record ByteFacts (r : ObjectRecord) : Type 0 where
@@ -58,28 +52,11 @@ pub record ByteFacts (r : ObjectRecord) : Type 0 where
 
 pub byte-facts : (r : ObjectRecord) → bytesRight r ≡ true → ByteFacts r
 byte-facts r e =
-    let b1 : Bool = leb 1 (r .size) in
-    let b2 : Bool = leb (r .size) 32 in
-    let b3 : Bool = leb (r .order) 1 in
-    let b4 : Bool = leb (r .transfer) 1 in
-    let b5 : Bool = leb (r .depth) 16 in
-    let b6 : Bool = eqb (r .«zero_9») 0 in
-    let b7 : Bool = eqb (r .«zero_10») 0 in
-    let b8 : Bool = eqb (r .«zero_24») 0 in
-    let a7 = and-split (b1 && b2 && b3 && b4 && b5 && b6 && b7) b8 e in
-    let a6 = and-split (b1 && b2 && b3 && b4 && b5 && b6) b7 (a7 .0) in
-    let a5 = and-split (b1 && b2 && b3 && b4 && b5) b6 (a6 .0) in
-    let a4 = and-split (b1 && b2 && b3 && b4) b5 (a5 .0) in
-    let a3 = and-split (b1 && b2 && b3) b4 (a4 .0) in
-    let a2 = and-split (b1 && b2) b3 (a3 .0) in
-    let a1 = and-split b1 b2 (a2 .0) in
-    record {
-      least = leb-true 1 (r .size) (a1 .0);
-      most = leb-true (r .size) 32 (a1 .1);
-      orders = leb-true (r .order) 1 (a2 .1);
-      transfers = leb-true (r .transfer) 1 (a3 .1);
-      depths = leb-true (r .depth) 16 (a4 .1);
-    }
+    let all =
+    each-true (leb 1 (r .size))
+    (leb (r .size) 32 ∷ leb (r .order) 1 ∷ leb (r .transfer) 1 ∷ leb (r .depth) 16
+    ∷ eqb (r .«zero_9») 0 ∷ eqb (r .«zero_10») 0 ∷ eqb (r .«zero_24») 0 ∷ []) e in
+    search leb-true
 
 -- ---- I-PDU records
 
@@ -92,18 +69,11 @@ pub record IpduFacts (r : IpduRecord) : Type 0 where
 pub ipdu-facts : (r : IpduRecord) → ipduRight r ≡ true → IpduFacts r
 unfolding ipduRight
 ipdu-facts r e =
-    let b1 : Bool = leb 1 (r .length) in
-    let b2 : Bool = leb (r .length) 8 in
-    let b3 : Bool = leb (r .mode) 2 in
-    let b4 : Bool = eqb (r .«zero_3») 0 in
-    let b5 : Bool = eqb (r .«zero_14») 0 in
-    let b6 : Bool = eqb (r .direction) sending && sendIpdu r || eqb (r .direction) receiving && receiveIpdu r in
-    let a5 = and-split (b1 && b2 && b3 && b4 && b5) b6 e in
-    let a4 = and-split (b1 && b2 && b3 && b4) b5 (a5 .0) in
-    let a3 = and-split (b1 && b2 && b3) b4 (a4 .0) in
-    let a2 = and-split (b1 && b2) b3 (a3 .0) in
-    let a1 = and-split b1 b2 (a2 .0) in
-    record { least = leb-true _ _ (a1 .0); most = leb-true _ _ (a1 .1); modes = leb-true _ _ (a2 .1); directions = a5 .1 }
+    let all =
+    each-true (leb 1 (r .length))
+    (leb (r .length) 8 ∷ leb (r .mode) 2 ∷ eqb (r .«zero_3») 0 ∷ eqb (r .«zero_14») 0
+    ∷ (eqb (r .direction) sending && sendIpdu r || eqb (r .direction) receiving && receiveIpdu r) ∷ []) e in
+    search leb-true
 
 -- ---- where a send object's bits lie
 

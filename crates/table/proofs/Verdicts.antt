@@ -1,9 +1,9 @@
 -- From a right header to the table's shape, and from what the searches found to what the check answers.
 -- Assumes nothing.
-use mathlib.Core.Bool.{Bool, true, false, _&&_}
-use mathlib.Core.List.{List}
+use mathlib.Core.Bool.{true, false}
+use mathlib.Core.List.{List, [], _∷_}
 use mathlib.Core.Logic.{⊎-elim}
-use mathlib.Core.Path.{_≡_, refl, sym, ap, _∙_}
+use mathlib.Core.Path.{_≡_}
 use Prim.Native.Nat.{ℕ, _≤_, _<_}
 use native.Mathlib.Omega.{arith}
 use borrow.Author.Tests.{leb-true, eqb-true, lt-ltb, le-ltb, ltb-true}
@@ -12,10 +12,10 @@ use lib.ListN.{length}
 use Rattle.memory.specs.Bytes.{numberAt}
 use Rattle.memory.specs.Search.{least}
 use Rattle.memory.proofs.Search.{least-before}
-use Rattle.memory.proofs.Tests.{and-split, true-or-false}
+use Rattle.memory.proofs.Tests.{and-split, each-true, true-or-false}
 use Rattle.table.specs.declared.Counts.{Counts}
 use Rattle.table.specs.declared.Verdict.the-variants.{Accepted, WrongIpdu, WrongObject}
-use Rattle.table.specs.Records.{ipduBase, objectBase, tableLength, counts}
+use Rattle.table.specs.Records.{mostIpdus, mostObjects, ipduBase, objectBase, tableLength, counts}
 use Rattle.table.specs.Rules.{offsetsRight, headerRight}
 use Rattle.table.specs.Check.{Shape, wrongIpdu, wrongObject, checkObjects, checkIpdus, checkRecords, check, placeOf}
 
@@ -27,22 +27,16 @@ pub header-shape : (t : List ℕ) → headerRight t ≡ true → Shape t (counts
 unfolding headerRight offsetsRight
 header-shape t e =
     let c = counts t in
-    let b1 : Bool = leb (c .ipdus) 32 in
-    let b2 : Bool = leb (c .objects) 128 in
-    let b3 : Bool = eqb (numberAt 2 4 t) ipduBase in
-    let b4 : Bool = eqb (numberAt 2 6 t) (objectBase (c .ipdus)) in
-    let b5 : Bool = eqb (numberAt 2 8 t) (tableLength (c .ipdus) (c .objects)) in
-    let b6 : Bool = eqb (numberAt 2 10 t) 0 in
-    let b7 : Bool = eqb (numberAt 4 12 t) 0 in
-    let b8 : Bool = eqb (length t) (tableLength (c .ipdus) (c .objects)) in
-    let a8 = and-split (b1 && b2 && b3 && b4 && b5 && b6 && b7) b8 (and-split (leb 16 (length t)) _ e .1) in
-    let a7 = and-split (b1 && b2 && b3 && b4 && b5 && b6) b7 (a8 .0) in
-    let a6 = and-split (b1 && b2 && b3 && b4 && b5) b6 (a7 .0) in
-    let a5 = and-split (b1 && b2 && b3 && b4) b5 (a6 .0) in
-    let a4 = and-split (b1 && b2 && b3) b4 (a5 .0) in
-    let a3 = and-split (b1 && b2) b3 (a4 .0) in
-    let a2 = and-split b1 b2 (a3 .0) in
-    record { ipdus = leb-true _ _ (a2 .0); objects = leb-true _ _ (a2 .1); long = eqb-true _ _ (a8 .1) }
+    let all =
+    each-true (leb (c .ipdus) mostIpdus)
+    (leb (c .objects) mostObjects ∷ eqb (numberAt 2 4 t) ipduBase ∷ eqb (numberAt 2 6 t) (objectBase (c .ipdus))
+    ∷ eqb (numberAt 2 8 t) (tableLength (c .ipdus) (c .objects)) ∷ eqb (numberAt 2 10 t) 0 ∷ eqb (numberAt 4 12 t) 0
+    ∷ eqb (length t) (tableLength (c .ipdus) (c .objects)) ∷ [])
+    (and-split (leb 16 (length t)) _ e .1) in
+    search (leb-true, eqb-true)
+
+pub counts-shape : (t : List ℕ) {c : Counts} → headerRight t ≡ true → c ≡ counts t → Shape t c
+counts-shape t h e = rw e (header-shape t h)
 
 -- ---- what the check answers, from what the searches found
 

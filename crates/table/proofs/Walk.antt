@@ -1,22 +1,26 @@
 -- The walk over the objects: what holds after i objects, one more, and the end.
 -- Assumes nothing.
-use mathlib.Core.Bool.{Bool, true, false, _||_}
+use mathlib.Core.Bool.{Bool, true, false, not, _||_}
 use mathlib.Core.List.{List}
-use mathlib.Core.Path.{_≡_, refl, sym, ap, _∙_}
-use Prim.Native.Nat.{ℕ, suc, _+_, _≤_, _<_, zero-le}
+use mathlib.Core.Path.{_≡_, refl, sym, _∙_}
+use Prim.Native.Nat.{ℕ, suc, _+_, _^_, _≤_, _<_, zero-le}
 use native.Mathlib.Nat.{le-refl}
 use native.Mathlib.Omega.{arith}
 use borrow.Author.Count.{below-more}
+use borrow.Author.Tests.{not-true, not-false}
 use lib.ListN.{replicate}
 use Rattle.memory.specs.Search.{least}
 use Rattle.memory.proofs.Tests.{or-split, true-not-false}
 use Rattle.memory.proofs.Search.{below-suc, least-at, least-none, least-before}
 use Rattle.table.specs.declared.Counts.{Counts}
 use Rattle.table.specs.declared.ObjectRecord.{ObjectRecord}
+use Rattle.table.specs.declared.References.{References}
 use Rattle.table.specs.Records.{mostQueued, objectRecord}
+use Rattle.table.specs.Rules.{references, objectRight}
 use Rattle.table.specs.Check.{Shape, isSent, wrongIpdu, wrongAlone, depths, pastDepth, overlapsLower, wrongObject}
 use Rattle.table.specs.Masks.{RightAlone, Placed, clear, claimed, Ended}
-use Rattle.table.proofs.Facts.{placed}
+use Rattle.table.proofs.Facts.{object-facts, byte-facts, placed}
+use Rattle.table.proofs.Turns.{wrong-alone, wrong-depth, right-alone, more-depth}
 use Rattle.table.proofs.Overlaps.{usedAfter, used-start, used-next, free-lower, taken-lower}
 
 -- the first i objects are right, and depth and used are what they leave
@@ -126,6 +130,47 @@ module _ (t : List ℕ) (c : Counts) (shape : Shape t c) (ipdus : (k : ℕ) → 
           alone = λ e. absurd (true-not-false {b = true} refl e);
           overlap = λ e. absurd (true-not-false {b = true} refl e);
         }
+
+-- ---- one turn of the walk, from what its calls answer
+
+pub walk-starts : (t : List ℕ) (c : Counts) → Shape t c → ((k : ℕ) → k < c .ipdus → wrongIpdu t k ≡ false)
+    → RightAlone t c 0 × Passed t c (replicate 32 0) 0 0
+walk-starts t c shape ipdus = (right-upto t c shape ipdus 0 zero-le (λ j h. absurd (omega arith)), passed-none t c)
+
+module _ (t : List ℕ) (c : Counts) {used : List ℕ} {depth i : ℕ} (start : RightAlone t c 0) (p : Passed t c used depth i) where
+  pub walk-ends : c .objects ≤ i → Ended t c i true
+  walk-ends = ends-right t c (start .shape) (start .ipdus) used depth i p
+
+  module _ (h : i < c .objects) {r : ObjectRecord} (here : r ≡ objectRecord t (c .ipdus) i) where
+    pub ends-past-depth : mostQueued < depth + r .depth → Ended t c i true
+    ends-past-depth past = ends-wrong t c (start .shape) (start .ipdus) used depth i p h (wrong-depth t c i r here depth (p .sum) past)
+
+    module _ {right : Bool} {x : References} (test : right ≡ objectRight r x) (refers : x ≡ references t c r) where
+      pub ends-alone : not right ≡ true → Ended t c i true
+      ends-alone e =
+          ends-wrong t c (start .shape) (start .ipdus) used depth i p h (wrong-alone t c i r here right x test refers (not-true right e))
+
+      module _ (e : not right ≡ false) where
+        pub depth-fits : depth + r .depth < 2 ^ 32
+        depth-fits = omega (arith, byte-facts r (object-facts r x (sym test ∙ not-false right e) .bytes) .depths, p .low)
+
+        module _ (low : depth + r .depth ≤ mostQueued) where
+          alone : (wrongAlone t c i || pastDepth t c i) ≡ false
+          alone = right-alone t c i r here right x test refers (not-false right e) depth (p .sum) low
+
+          pub next-has-place : isSent r ≡ true → Placed r
+          next-has-place = next-placed t c (start .shape) (start .ipdus) used depth i p h alone r here
+
+          pub ends-overlapping : {free : Bool} → free ≡ clear used r → not free ≡ true → Ended t c i false
+          ends-overlapping f taken =
+              ends-taken t c (start .shape) (start .ipdus) used depth i p h alone r here (sym f ∙ not-true _ taken)
+
+          pub walk-goes-on : {free : Bool} {after : List ℕ} → free ≡ clear used r → not free ≡ false → after ≡ claimed used r
+              → Passed t c after (depth + r .depth) (i + 1)
+          walk-goes-on f left after =
+              rw after
+              (passed-next t c (start .shape) (start .ipdus) used depth i p h alone r here
+              (more-depth t c i r here depth (p .sum)) low (sym f ∙ not-false _ left))
 
 -- the pair search names the object at which the walk ended
 pub pair-named : (t : List ℕ) (c : Counts) (end : ℕ) → Ended t c end false → least (end + 1) (overlapsLower t (c .ipdus)) ≡ least (c .objects) (wrongObject t c)

@@ -1,4 +1,4 @@
--- `bits::is_place` meets its contract.
+-- `bits::is_place`: a length above 8 fails the second test, and one of at most 8 fits a u32.
 -- Assumes nothing.
 use Rattle.memory.proofs.Tests.{and-false}
 use borrow.Author.Tests.{lt-leb}
@@ -12,15 +12,7 @@ returns : tie.Need-returns
 unfolding isPlace
 returns c = rw (lt-leb (c .before .args .length) 8 (c .if1 .taken), and-false (leb 1 (c .before .args .length)))
 
-cast-t8 : tie.Need-cast-t8
-cast-t8 c = search needs
-
-has-room-requires : tie.Need-has-room-requires
-has-room-requires c κs = search needs
-
-returns-2 : tie.Need-returns-2
-unfolding isPlace
-returns-2 c = rw (c .has-room .ensures)
-
 pub is-place-spec : {M : Type 1} → statement M
-is-place-spec = tie.close (tie.spec returns cast-t8 has-room-requires returns-2)
+unfolding isPlace
+is-place-spec =
+    tie.close (tie.spec returns (λ c. search needs) (λ c κs. search needs) (λ c. rw (c .has-room .ensures)))

@@ -1,4 +1,4 @@
--- `memory::read8` meets its contract.
+-- `memory::read8`: a number of one byte is the byte.
 -- Assumes nothing.
 use Rattle.memory.proofs.Parts.{number-one}
 use native.Mathlib.Omega.{arith}
@@ -6,14 +6,10 @@ use borrow.Author.Needs.{needs}
 use Rattle.memory.proofs.read8.Statement.{statement}
 use Rattle.memory.proofs.read8.Tie as tie
 
-shared-slice-read-result : tie.Need-shared-slice-read-result
-shared-slice-read-result c = search needs
-
-cast-result : tie.Need-cast-result
-cast-result c = omega (arith, c .shared-slice-known .given (c .before .args .at))
-
-returns : tie.Need-returns
-returns c = omega (arith, number-one (c .before .args .at) (c .before .args .m .now), c .shared-slice-known .given (c .before .args .at))
-
 pub read8-spec : {M : Type 1} → statement M
-read8-spec = tie.close (tie.spec shared-slice-read-result cast-result returns)
+read8-spec =
+    tie.close
+    (tie.spec
+    (λ c. search needs)
+    (λ c. omega (arith, c .shared-slice-known .given (c .before .args .at)))
+    (λ c. rw number-one (omega (arith, c .shared-slice-known .given (c .before .args .at)))))

@@ -1,4 +1,4 @@
--- `bits::walk::position` meets its contract: the constant list is `position Big` at each of its 64 entries, by one computed equation.
+-- `bits::walk::position`: the constant list is `position Big` at each of its 64 entries, by one computed equation.
 -- Assumes nothing.
 use mathlib.Core.Path.{_≡_, refl, sym, ap, _∙_}
 use mathlib.Core.List.{List, [], _∷_}
@@ -41,27 +41,22 @@ gives-the-walk n i h k =
     sym (position-twice Big (place Big n i) (met .inside)) ∙ ap (position Big) (met .at)
     ∙ sym (entry (position Big n + i) inside) ∙ ap (λ (p : ℕ). getD bigWalk (p + i) 0) (sym start)
 
-enum-told : tie.Need-enum-told
-enum-told c = search needs
-
-enum-told-2 : tie.Need-enum-told-2
-enum-told-2 c = search needs
-
-array-read-result : tie.Need-array-read-result
-array-read-result c = search needs
-
 cast-result : tie.Need-cast-result
 cast-result c =
     let p = c .before .before .args .place in
     omega (arith, entry p (c .before .before .pre), position-lt Big p (c .before .before .pre))
 
-returns : tie.Need-returns
-unfolding position
-returns c = rw (c .enum-told .given .1)
-
 returns-2 : tie.Need-returns-2
 returns-2 c = rw (c .enum-told2 .given .1) (entry (c .before .before .args .place) (c .before .before .pre))
 
 pub position-spec : {M : Type 1} → statement M
+unfolding position
 position-spec =
-    tie.close (tie.spec enum-told enum-told-2 array-read-result cast-result returns returns-2)
+    tie.close
+    (tie.spec
+    (λ c. search needs)
+    (λ c. search needs)
+    (λ c. search needs)
+    cast-result
+    (λ c. rw (c .enum-told .given .1))
+    returns-2)

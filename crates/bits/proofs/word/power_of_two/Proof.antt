@@ -1,4 +1,4 @@
--- `bits::word::power_of_two` meets its contract: nothing is shifted out of a u64.
+-- `bits::word::power_of_two`: nothing is shifted out of a u64.
 -- Assumes nothing.
 use mathlib.Core.Path.{_∙_}
 use native.Mathlib.Nat.{one-mul}
@@ -8,11 +8,9 @@ use lib.Pow.{shl-exact}
 use Rattle.bits.proofs.word.power_of_two.Statement.{statement}
 use Rattle.bits.proofs.word.power_of_two.Tie as tie
 
-shl-result : tie.Need-shl-result
-shl-result c = search needs
-
-returns : tie.Need-returns
-returns c = shl-exact 1 (c .args .n) 64 (omega arith) (omega arith) ∙ one-mul _
-
 pub power-of-two-spec : {M : Type 1} → statement M
-power-of-two-spec = tie.close (tie.spec shl-result returns)
+power-of-two-spec =
+    tie.close
+    (tie.spec
+    (λ c. search needs)
+    (λ c. shl-exact 1 (c .args .n) 64 (omega arith) (omega arith) ∙ one-mul _))

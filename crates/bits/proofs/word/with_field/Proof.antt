@@ -1,4 +1,4 @@
--- `bits::word::with_field` meets its contract. The laws of `Slots` bound what is computed on the way.
+-- `bits::word::with_field`: the laws of `Slots` bound what is computed on the way.
 -- Assumes nothing.
 use native.Mathlib.Omega.{arith}
 use borrow.Author.Needs.{needs}
@@ -8,25 +8,10 @@ use Rattle.bits.proofs.Slots.{old-field-le, new-field-lt, with-field-lt
 use Rattle.bits.proofs.word.with_field.Statement.{statement}
 use Rattle.bits.proofs.word.with_field.Tie as tie
 
-power-of-two-requires : tie.Need-power-of-two-requires
-power-of-two-requires c κs = search needs
-
-power-of-two-requires-2 : tie.Need-power-of-two-requires-2
-power-of-two-requires-2 c κs = search needs
-
-div-old : tie.Need-div-old
-div-old c = rw (c .before .power-of-two .ensures) (pow-pos _)
-
-rem-old : tie.Need-rem-old
-rem-old c = rw (c .power-of-two2 .ensures) (pow-pos _)
-
 mul-old : tie.Need-mul-old
 mul-old c =
     let le = old-field-le (c .before .before .args .word) (c .before .before .args .at) (c .before .before .args .bits) in
     rw (c .before .power-of-two .ensures, c .power-of-two2 .ensures) (omega arith)
-
-rem-new : tie.Need-rem-new
-rem-new c = rw (c .power-of-two2 .ensures) (pow-pos _)
 
 mul-new : tie.Need-mul-new
 mul-new c =
@@ -43,21 +28,18 @@ add-result c =
     rw (c .before .power-of-two .ensures, c .power-of-two2 .ensures)
     (record { fits = with-field-lt (a .word) (a .at) (a .bits) (a .x) (c .before .before .pre .0) (omega arith) })
 
-returns : tie.Need-returns
-unfolding bitField withBitField
-returns c = rw (c .before .power-of-two .ensures, c .power-of-two2 .ensures)
-
 pub with-field-spec : {M : Type 1} → statement M
+unfolding bitField withBitField
 with-field-spec =
     tie.close
     (tie.spec
-    power-of-two-requires
-    power-of-two-requires-2
-    div-old
-    rem-old
+    (λ c κs. search needs)
+    (λ c κs. search needs)
+    (λ c. rw (c .before .power-of-two .ensures) (pow-pos _))
+    (λ c. rw (c .power-of-two2 .ensures) (pow-pos _))
     mul-old
-    rem-new
+    (λ c. rw (c .power-of-two2 .ensures) (pow-pos _))
     mul-new
     sub-result
     add-result
-    returns)
+    (λ c. rw (c .before .power-of-two .ensures, c .power-of-two2 .ensures)))

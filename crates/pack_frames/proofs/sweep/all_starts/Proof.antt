@@ -1,4 +1,4 @@
--- `pack_frames::sweep::all_starts` is safe and ends.
+-- `pack_frames::sweep::all_starts`: the start bit counts up to 81.
 -- Assumes nothing.
 use Prim.Native.Nat.{_≤_, _-_}
 use borrow.Author.Needs.{needs}
@@ -11,25 +11,15 @@ Inv-loop length order t₀ start₀ t start = start ≤ 81
 abbrev μ-loop : tie.MeasureT-loop
 μ-loop length order t₀ start₀ t start = 81 - start
 
-loop-holds : tie.Need-loop-holds Inv-loop μ-loop
-loop-holds c = search needs
-
-all-sizes-requires : tie.Need-all-sizes-requires Inv-loop μ-loop
-all-sizes-requires c κs = search needs
-
-add-start : tie.Need-add-start Inv-loop μ-loop
-add-start c = search needs
-
-loop-less : tie.Need-loop-less Inv-loop μ-loop
-loop-less c = search needs
-
-loop-again : tie.Need-loop-again Inv-loop μ-loop
-loop-again c = search needs
-
-returns : tie.Need-returns Inv-loop μ-loop
-returns c = search needs
-
 pub all-starts-spec : {M : Type 1} → statement M
 all-starts-spec =
     tie.close
-    (tie.spec Inv-loop μ-loop loop-holds all-sizes-requires add-start loop-less loop-again returns)
+    (tie.spec
+    Inv-loop
+    μ-loop
+    (λ c. search needs)
+    (λ c κs. search needs)
+    (λ c. search needs)
+    (λ c. search needs)
+    (λ c. search needs)
+    (λ c. search needs))

@@ -1,14 +1,9 @@
--- `table::decode::transfer_of` meets its contract.
+-- `table::decode::transfer_of`: the test picks the transfer.
 -- Assumes nothing.
 use borrow.Author.Tests.{eq-eqb, ne-eqb}
 use Rattle.table.proofs.decode.transfer_of.Statement.{statement}
 use Rattle.table.proofs.decode.transfer_of.Tie as tie
 
-returns : tie.Need-returns
-returns c = rw (eq-eqb _ _ (c .if1 .taken))
-
-returns-2 : tie.Need-returns-2
-returns-2 c = rw (ne-eqb _ _ (c .if1 .left))
-
 pub transfer-of-spec : {M : Type 1} → statement M
-transfer-of-spec = tie.close (tie.spec returns returns-2)
+transfer-of-spec =
+    tie.close (tie.spec (λ c. rw (eq-eqb _ _ (c .if1 .taken))) (λ c. rw (ne-eqb _ _ (c .if1 .left))))

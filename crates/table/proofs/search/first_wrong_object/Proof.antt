@@ -7,12 +7,6 @@ use borrow.Author.Needs.{needs}
 use Rattle.table.proofs.search.first_wrong_object.Statement.{statement}
 use Rattle.table.proofs.search.first_wrong_object.Tie as tie
 
-walk-requires : tie.Need-walk-requires
-walk-requires c κs = search needs
-
-returns : tie.Need-returns
-returns c = search needs
-
 add-first-pair : tie.Need-add-first-pair
 add-first-pair c = omega (arith, c .before .walk .ensures .alone (c .if1 .left) .within, c .before .before .before .pre .0 .objects)
 
@@ -27,4 +21,4 @@ returns-2 c =
 
 pub first-wrong-object-spec : {M : Type 1} → statement M
 first-wrong-object-spec =
-    tie.close (tie.spec walk-requires returns add-first-pair first-pair-requires returns-2)
+    tie.close (tie.spec (λ c κs. search needs) (λ c. search needs) add-first-pair first-pair-requires returns-2)

@@ -1,4 +1,4 @@
--- `table::search::kind_of` meets its contract.
+-- `table::search::kind_of`: the record is read only where there is one.
 -- Assumes nothing.
 use mathlib.Core.Path.{ap}
 use borrow.Author.Tests.{lt-ltb, le-ltb}
@@ -7,14 +7,8 @@ use borrow.Author.Needs.{needs}
 use Rattle.table.proofs.search.kind_of.Statement.{statement}
 use Rattle.table.proofs.search.kind_of.Tie as tie
 
-object-record-requires : tie.Need-object-record-requires
-object-record-requires c κs = search needs
-
 returns : tie.Need-returns
 returns c = rw (lt-ltb _ _ (c .before .if1 .taken)) (ap (λ (r : ObjectRecord). r .kind) (c .object-record .ensures))
 
-returns-2 : tie.Need-returns-2
-returns-2 c = rw (le-ltb _ _ (c .if1 .left))
-
 pub kind-of-spec : {M : Type 1} → statement M
-kind-of-spec = tie.close (tie.spec object-record-requires returns returns-2)
+kind-of-spec = tie.close (tie.spec (λ c κs. search needs) returns (λ c. rw (le-ltb _ _ (c .if1 .left))))
