@@ -1,3 +1,3 @@
 pub mod Records
-pub mod Filtered
+pub mod Outcomes
 pub mod Ticks

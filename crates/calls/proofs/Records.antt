@@ -4,7 +4,7 @@ use mathlib.Core.Bool.{true, false, not, _&&_}
 use mathlib.Core.List.{List}
 use mathlib.Core.Logic.{⊎-elim}
 use mathlib.Core.Path.{_≡_}
-use Prim.Native.Nat.{ℕ, _+_, _≤_, _<_}
+use Prim.Native.Nat.{ℕ, _≤_, _<_}
 use native.Mathlib.Omega.{arith}
 use borrow.Author.Tests.{ltb-true, eqb-true, not-true}
 use lib.Dec.{ltb, eqb}
@@ -15,8 +15,8 @@ use Rattle.table.specs.declared.Direction.the-variants.{Send, Receive}
 use Rattle.table.specs.declared.Object.{Object}
 use Rattle.table.specs.Records.{receiving, sending, absent, ipduRecord, objectRecord}
 use Rattle.table.specs.Decode.{ipduOf, objectOf, Right}
-use Rattle.table.proofs.Accepted.{Usable, usable}
-use Rattle.table.proofs.Facts.{IpduFacts, ipdu-facts}
+use Rattle.table.proofs.Accepted.{usable}
+use Rattle.table.proofs.Facts.{ipdu-facts}
 use Rattle.state.specs.Ranges.{Ready}
 use Rattle.message.specs.Objects.{object}
 use Rattle.transmission.specs.Requests.{ipdu}

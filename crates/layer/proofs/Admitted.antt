@@ -1,17 +1,16 @@
 -- Admission: what an admitted call may rely on, and what a call leaves, admitted or refused. The laws ask for plain values, so that a
 -- search finds them. Assumes nothing.
-use mathlib.Core.Bool.{Bool, true, false, _&&_}
+use mathlib.Core.Bool.{Bool, true, false, not, _&&_}
 use mathlib.Core.List.{List, _++_}
 use mathlib.Core.Logic.{⊎-elim}
 use mathlib.Core.Path.{_≡_, refl, sym, ap, _∙_}
 use Prim.Native.Nat.{ℕ, _≤_}
 use native.Mathlib.Omega.{arith}
-use borrow.Author.Tests.{leb-true}
+use borrow.Author.Tests.{leb-true, not-true, not-false}
 use lib.Dec.{leb, eqb}
 use lib.ListN.{length, drop, take-append-drop}
 use lib.Seq.{length-take-le}
 use Rattle.memory.specs.Bytes.{Bytes, part}
-use Rattle.memory.specs.Search.{pick}
 use Rattle.memory.proofs.Parts.{part-bytes}
 use Rattle.memory.proofs.Tests.{and-split, true-or-false}
 use Rattle.table.specs.declared.Counts.{Counts}
@@ -27,7 +26,7 @@ use Rattle.calls.specs.declared.Answer.the-variants.{WrongTable, WrongMemory, S
 use Rattle.calls.specs.Answers.{Outcome, outcome}
 use Rattle.layer.specs.declared.Admission.{Admission}
 use Rattle.layer.specs.declared.Admission.the-variants.{Admitted, Refused}
-use Rattle.layer.specs.Admission.{Open, Admits, workingMemory, admissionOf, admission, onWorkingMemory, ifAdmitted}
+use Rattle.layer.specs.Admission.{Open, Admits, workingMemory, admissionFront, admissionOf, admission, onWorkingMemory, ifAdmitted}
 
 refused-not : {c : Counts} (a : Answer) → Refused a ≡ Admitted c → ⊥
 refused-not a e = let z : _≡_ {A = ℕ} 0 1 = cc in omega arith
@@ -72,8 +71,35 @@ module _ (t m : List ℕ) (fits : Bool) (bt : Bytes t) (bm : Bytes m) (c : Count
 pub admits : (t m : List ℕ) (fits : Bool) → Bytes t → Bytes m → (a : Admission) → a ≡ admission t m fits → Admits t m fits a
 admits t m fits bt bm a e = record { same = e; opens = λ c f. admission-open t m fits bt bm c (sym e ∙ f) }
 
+pub accepted-admits : (t m : List ℕ) (fits : Bool) (c : Counts) (v : Verdict) (a : Admission) → Bytes t → Bytes m → v ≡ check t → v ≡ Accepted c
+    → a ≡ admissionOf (Accepted c) t m fits → Admits t m fits a
+unfolding admission
+accepted-admits t m fits c v a bt bm checks accepts does = admits t m fits bt bm a (rw (← checks, accepts) does)
+
 pub admits-refused : {t m : List ℕ} {fits : Bool} {a : Answer} → Refused a ≡ admission t m fits → Admits t m fits (Refused a)
 admits-refused {t} {m} {fits} {a} e = record { same = e; opens = λ c f. absurd (refused-not a f) }
+
+-- ---- memory and area long enough, or not
+
+module _ (t : List ℕ) (c : Counts) (m : List ℕ) (fits : Bool) where
+  pub memory-short : not (leb memorySize (length m) && fits) ≡ true → Refused WrongMemory ≡ admissionOf (Accepted c) t m fits
+  memory-short e = rw (not-true (leb memorySize (length m) && fits) e)
+
+  pub memory-long : (a : Admission) → not (leb memorySize (length m) && fits) ≡ false → a ≡ admissionFront c t (workingMemory m) → a ≡ admissionOf (Accepted c) t m fits
+  memory-long a e does = rw (not-false (leb memorySize (length m) && fits) e) does
+
+pub memory-enough : (m : List ℕ) (fits : Bool) → not (leb memorySize (length m) && fits) ≡ false → memorySize ≤ length m
+memory-enough m fits e = leb-true _ _ (and-split (leb memorySize (length m)) fits (not-false _ e) .0)
+
+module _ (m : List ℕ) (long : memorySize ≤ length m) where
+  pub working-length : length (workingMemory m) ≡ memorySize
+  working-length = length-take-le memorySize m long
+
+  pub working-exact : memorySize ≡ length (workingMemory m)
+  working-exact = sym working-length
+
+  pub working-long : memorySize ≤ length (workingMemory m)
+  working-long = omega (arith, working-length)
 
 -- ---- what an admitted call may rely on
 

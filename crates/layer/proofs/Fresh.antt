@@ -1,26 +1,39 @@
--- What a start writes: 8,192 bytes, whatever was there.
+-- What a start writes, step by step: 8,192 bytes, whatever was there. The first laws ask for plain values, so that a search finds them.
 -- Assumes nothing.
-use mathlib.Core.List.{List}
-use mathlib.Core.Path.{_≡_, _∙_}
-use Prim.Native.Nat.{ℕ, _+_, _≤_, _<_}
+use mathlib.Core.List.{List, [], _++_}
+use mathlib.Core.Path.{_≡_, sym, _∙_}
+use Prim.Native.Nat.{ℕ, _+_, _^_, _≤_, _<_}
+use native.Mathlib.Numerals.{unary-clauses}
 use native.Mathlib.Omega.{arith}
-use lib.ListN.{length, replicate, length-replicate}
+use borrow.Author.Tests.{le-leb}
+use lib.ListN.{length, drop, replicate, length-replicate}
 use Rattle.memory.specs.Bytes.{bytesOf, replaced}
 use Rattle.memory.specs.Search.{fold}
 use Rattle.memory.proofs.Search.{fold-keeps}
 use Rattle.table.specs.declared.Counts.{Counts}
 use Rattle.table.specs.declared.Direction.{Direction}
 use Rattle.table.specs.declared.Direction.the-variants.{Send, Receive}
+use Rattle.table.specs.declared.Ipdu.{Ipdu}
 use Rattle.table.specs.declared.Object.{Object}
-use Rattle.table.specs.Decode.{Right}
-use Rattle.table.specs.Check.{depths}
-use Rattle.state.specs.Layout.{rowSize, memorySize, withRunning, objectRow, withObjectState}
+use Rattle.table.specs.declared.Verdict.{Verdict}
+use Rattle.table.specs.declared.Verdict.the-variants.{Accepted}
+use Rattle.table.specs.Decode.{objectOf, Right}
+use Rattle.table.specs.Check.{check, depths}
+use Rattle.table.proofs.Accepted.{accepted-right}
+use Rattle.state.specs.declared.IpduState.{IpduState}
+use Rattle.state.specs.declared.ObjectState.{ObjectState}
+use Rattle.state.specs.Layout.{rowSize, memorySize, withRunning, withIpduState, objectRow, withObjectState}
 use Rattle.state.proofs.RowLaws.{ipdu-length, object-length}
 use Rattle.state.proofs.Running.{running-length}
-use Rattle.message.specs.Objects.{object, Placed}
+use Rattle.state.proofs.Turns.{depth-sum}
+use Rattle.message.specs.Objects.{object, pack, Placed}
 use Rattle.message.proofs.ObjectsInRange.{right-placed, pack-length}
+use Rattle.message.proofs.Turns.{turn-more}
 use Rattle.transmission.specs.Requests.{ipdu}
-use Rattle.layer.specs.Start.{blank, idle, firstTimer, startIpdu, unused, startAs, startObject, prepared, started}
+use Rattle.calls.specs.declared.Answer.the-variants.{Done}
+use Rattle.calls.specs.Answers.{Outcome, outcome}
+use Rattle.layer.specs.Start.{blank, idle, firstTimer, startIpdu, unused, startAs, startObject, prepared, started, startIn}
+use Rattle.layer.specs.Admission.{startAdmissionOf, startAdmission, ifAdmitted}
 
 -- all bytes cleared, the I-PDUs' rows written, then the objects, then that the layer runs
 pub all-written : (t : List ℕ) (c : Counts) {size : ℕ} {zeros ipdus objects running : List ℕ} → size ≡ memorySize → zeros ≡ replicate size 0
@@ -28,6 +41,52 @@ pub all-written : (t : List ℕ) (c : Counts) {size : ℕ} {zeros ipdus objects 
     → running ≡ started t c
 unfolding started prepared blank withRunning
 all-written t c size zeros ipdus objects running = rw (running, objects, ipdus, zeros, size)
+
+-- ---- by the verdict, and by the length of memory
+
+module _ (t : List ℕ) (c : Counts) (v : Verdict) (checks : v ≡ check t) (accepts : v ≡ Accepted c) where
+  pub verdict-right : Right t c
+  verdict-right = accepted-right t c (sym checks ∙ accepts)
+
+  pub accepted-starts : (m : List ℕ) (x : Outcome) → x ≡ ifAdmitted (startAdmissionOf (Accepted c) m) m [] (startIn t)
+      → x ≡ ifAdmitted (startAdmission t m) m [] (startIn t)
+  unfolding startAdmission
+  accepted-starts m x does = rw (← checks, accepts) does
+
+pub starts-long : (t : List ℕ) (c : Counts) (m n : List ℕ) → memorySize ≤ length m → n ≡ started t c
+    → outcome (Done 0) (n ++ drop memorySize m) [] ≡ ifAdmitted (startAdmissionOf (Accepted c) m) m [] (startIn t)
+starts-long t c m n long writes = rw (le-leb _ _ long, writes)
+
+-- ---- one row more
+
+pub ipdus-more : (t : List ℕ) (k timer : ℕ) (m₀ m n : List ℕ) (p : Ipdu) (s : IpduState) → n ≡ withIpduState m k s → s ≡ idle timer
+    → timer ≡ firstTimer (p .direction) p → p ≡ ipdu t k → m ≡ fold k (startIpdu t) m₀ → n ≡ fold (k + 1) (startIpdu t) m₀
+ipdus-more t k timer m₀ m n p s sets idles times same so-far = turn-more (startIpdu t) k m m₀ so-far n (rw (sets, idles, times, same))
+
+module _ (o : Object) (i first : ℕ) (m n : List ℕ) (s : ObjectState) (sets : n ≡ withObjectState m i s) where
+  pub starts-sent : (q : List ℕ) → o .direction ≡ Send → s ≡ unused 0 (o .initial) first → q ≡ pack o (o .initial) n → q ≡ startAs (o .direction) o i first m
+  starts-sent q sends clears packs = packs ∙ rw (sets, clears, sends)
+
+  pub starts-received : o .direction ≡ Receive → s ≡ unused (o .initial) (o .initial) first → n ≡ startAs (o .direction) o i first m
+  starts-received receives clears = rw (receives, sets, clears)
+
+module _ (t : List ℕ) (c : Counts) (i first : ℕ) (o : Object) (same : o ≡ object t c i) where
+  pub starts-placed : (m₀ m : List ℕ) → Right t c → i < c .objects → memorySize ≤ length m₀ → length m ≡ length m₀ → Placed o m
+  starts-placed m₀ m right h long kept = rw same (right-placed t c m right (omega (arith, long, kept)) i h)
+
+  module _ (so-far : first ≡ depths t c i) where
+    pub first-fits : Right t c → i < c .objects → first + o .depth < 2 ^ 32
+    unfolding objectOf
+    first-fits right h = rw (so-far, same) (omega (arith, depth-sum t c right i h))
+
+    pub first-more : first + o .depth ≡ depths t c (i + 1)
+    unfolding objectOf
+    first-more = simp unary-clauses (rw (so-far, same))
+
+    pub objects-more : (m₀ m n : List ℕ) → m ≡ fold i (startObject t c) m₀ → n ≡ startAs (o .direction) o i first m → n ≡ fold (i + 1) (startObject t c) m₀
+    objects-more m₀ m n before starts = turn-more (startObject t c) i m m₀ before n (rw (starts, so-far, same))
+
+-- ---- what a start writes is 8,192 bytes long
 
 module _ (o : Object) (i first : ℕ) (m : List ℕ) (placed : Placed o m) (room : objectRow i + rowSize ≤ length m) where
   start-as-length : (d : Direction) → length (startAs d o i first m) ≡ length m

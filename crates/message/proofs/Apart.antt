@@ -4,7 +4,7 @@ use mathlib.Core.Bool.{Bool, true, false}
 use mathlib.Core.List.{List}
 use mathlib.Core.Logic.{_⊎_, inl, inr, ⊎-elim}
 use mathlib.Core.Path.{_≡_, refl, sym, ap, _∙_}
-use Prim.Native.Nat.{ℕ, _+_, _*_, _^_, _≤_, _<_}
+use Prim.Native.Nat.{ℕ, _+_, _^_, _≤_, _<_}
 use native.Mathlib.Omega.{arith}
 use borrow.Author.Tests.{eq-eqb}
 use lib.Dec.{eqb}
@@ -16,15 +16,14 @@ use Rattle.memory.proofs.Search.{picked, fold-keeps, fold-view, fold-at}
 use Rattle.memory.proofs.Tests.{lt-or-le}
 use Rattle.bits.specs.Bits.{unpacked}
 use Rattle.table.specs.declared.Counts.{Counts}
-use Rattle.table.specs.declared.Object.{Object}
 use Rattle.table.specs.Records.{mostObjects, mostIpdus, objectRecord}
 use Rattle.table.specs.Check.{depths}
 use Rattle.table.specs.Decode.{objectOf}
 use Rattle.state.specs.declared.ObjectState.{ObjectState}
-use Rattle.state.specs.Layout.{rowSize, queues, slotAt, objectRow, objectState, withObjectState}
+use Rattle.state.specs.Layout.{rowSize, queues, slotAt, objectRow, objectState}
 use Rattle.state.specs.Ranges.{Ready}
-use Rattle.state.proofs.RowLaws.{ObjectFits, object-part, object-stored, object-read}
-use Rattle.state.proofs.Ready.{ObjectKept, kept-fits, object-row, ready-kept}
+use Rattle.state.proofs.RowLaws.{object-part, object-stored, object-read}
+use Rattle.state.proofs.Ready.{kept-fits, object-row, ready-kept}
 use Rattle.message.specs.Objects.{object, passesFilter, placeAt, delivered, enters, deliver, startBit, unpack}
 use Rattle.message.specs.Delivery.{deliverInside, deliverFrame}
 use Rattle.message.proofs.RingPlaces.{queue-room}

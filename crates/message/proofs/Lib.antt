@@ -3,3 +3,4 @@ pub mod ObjectsInRange
 pub mod Apart
 pub mod Queues
 pub mod Deliveries
+pub mod Turns

@@ -1,13 +1,13 @@
 -- What is done to a message object keeps working memory in range, and a working memory in range gives what its functions ask.
 -- Assumes nothing.
-use mathlib.Core.Bool.{Bool, true, false, _&&_}
+use mathlib.Core.Bool.{Bool, true, false}
 use mathlib.Core.List.{List}
-use mathlib.Core.Logic.{_⊎_, inl, inr, ⊎-elim}
-use mathlib.Core.Path.{_≡_, refl, sym, ap, _∙_}
-use Prim.Native.Nat.{ℕ, suc, _+_, _-_, _*_, _%_, _^_, _≤_, _<_, zero-le}
+use mathlib.Core.Logic.{inl, inr, ⊎-elim}
+use mathlib.Core.Path.{_≡_, _∙_}
+use Prim.Native.Nat.{ℕ, _+_, _-_, _^_, _≤_, _<_}
 use native.Mathlib.Nat.{mod-lt, zero-lt-suc, lt-of-lt-of-le}
 use native.Mathlib.Omega.{arith}
-use borrow.Author.Tests.{ltb-true, ltb-false, lt-ltb, le-ltb, eqb-true}
+use borrow.Author.Tests.{ltb-true}
 use lib.Bits.{bitOr, or-lt}
 use lib.Dec.{ltb, eqb}
 use lib.ListN.{length}
@@ -15,8 +15,8 @@ use Rattle.memory.specs.Bytes.{bytesOf, part, replaced}
 use Rattle.memory.specs.Search.{pick, fold}
 use Rattle.memory.proofs.Parts.{bytesOf-length, bytesOf-bytes, part-length, replaced-length}
 use Rattle.memory.proofs.Search.{picked, fold-keeps}
-use Rattle.memory.proofs.Tests.{true-or-false, lt-or-le}
-use Rattle.bits.specs.Bits.{packed, unpacked}
+use Rattle.memory.proofs.Tests.{true-or-false}
+use Rattle.bits.specs.Bits.{packed}
 use Rattle.bits.proofs.RoundTrip.{packed-length, packed-bytes, unpacked-lt}
 use Rattle.filter.specs.Filters.{HasPeriod}
 use Rattle.table.specs.declared.Counts.{Counts}
@@ -24,15 +24,15 @@ use Rattle.table.specs.declared.Object.{Object}
 use Rattle.table.specs.Records.{absent, objectRecord}
 use Rattle.table.specs.Check.{depths}
 use Rattle.table.specs.Decode.{objectOf, Right}
-use Rattle.table.proofs.Accepted.{Usable, usable}
+use Rattle.table.proofs.Accepted.{usable}
 use Rattle.state.specs.declared.ObjectState.{ObjectState}
 use Rattle.state.specs.Layout.{memorySize, slotAt, objectState, withObjectState}
 use Rattle.state.specs.Updates.{withOld, withValue, withMarks, withQueue}
 use Rattle.state.specs.Ranges.{Ready}
-use Rattle.state.proofs.Ready.{ObjectKept, InQueues, in-queues, ready-kept, ready-object, ready-bytes}
-use Rattle.message.specs.Objects.{object, Held, Placed, markArrived, marked, passesFilter, afterFilter, around, placeAt, stored, delivered, enters, delivery, deliver, startBit, pack, unpack}
-use Rattle.message.specs.Delivery.{insideTurn, deliverInside, frameTurn, deliverFrame, markTurn, markObjects}
-use Rattle.message.proofs.RingPlaces.{QueueRoom, queue-room}
+use Rattle.state.proofs.Ready.{ObjectKept, in-queues, ready-kept, ready-object, ready-bytes}
+use Rattle.message.specs.Objects.{object, Held, Placed, marked, passesFilter, afterFilter, placeAt, stored, delivered, enters, deliver, startBit, pack, unpack}
+use Rattle.message.specs.Delivery.{insideTurn, frameTurn, markTurn}
+use Rattle.message.proofs.RingPlaces.{queue-room}
 
 -- ---- rows
 
@@ -153,6 +153,9 @@ right-placed t c m right long i h =
       ipdu = λ e. omega (arith, usable t c right i h .ipdu e .0, right .shape .ipdus);
     }
 
+pub right-start : (t : List ℕ) (c : Counts) (i : ℕ) → Right t c → i < c .objects → objectRecord t (c .ipdus) i .start < 64
+right-start t c i right h = usable t c right i h .start
+
 module _ (o : Object) (v : ℕ) (m : List ℕ) (placed : Placed o m) where
   pub pack-room : eqb (o .ipdu .0) absent ≡ false → slotAt (o .ipdu .0) + 8 ≤ length m
   pack-room some = omega (arith, placed .ipdu some, placed .long)
@@ -197,6 +200,17 @@ module _ (t : List ℕ) (c : Counts) (m : List ℕ) (ready : Ready t c m) (i : �
 
   pub ready-placed : Placed (object t c i) m
   ready-placed = right-placed t c m (ready .right) (omega (arith, ready .long)) i h
+
+  -- of an object that was decoded
+  module _ (o : Object) (same : o ≡ object t c i) where
+    pub decoded-held : Held (o .depth) i m
+    decoded-held = rw same ready-held
+
+    pub decoded-period : HasPeriod (o .filter)
+    decoded-period = rw same ready-period
+
+    pub decoded-placed : Placed o m
+    decoded-placed = rw same ready-placed
 
   -- packing keeps the ranges
   pub ready-pack : (v : ℕ) → Ready t c (pack (object t c i) v m)

@@ -1,19 +1,22 @@
--- What is asked of one message object: its row in range, places of its queue inside working memory.
+-- What is asked of one message object, and what its steps give: its row in range, places of its queue inside working memory.
 -- Assumes nothing.
-use mathlib.Core.Bool.{Bool, true, false}
+use mathlib.Core.Bool.{Bool, true, false, not}
 use mathlib.Core.List.{List}
 use mathlib.Core.Logic.{⊎-elim}
-use mathlib.Core.Path.{_≡_, refl, sym, ap, _∙_}
-use Prim.Native.Nat.{ℕ, _+_, _-_, _*_, _≤_, _<_}
+use mathlib.Core.Path.{_≡_, sym, ap, _∙_}
+use Prim.Native.Nat.{ℕ, _+_, _≤_, _<_, zero-le}
 use native.Mathlib.Omega.{arith}
-use borrow.Author.Tests.{lt-ltb, le-ltb}
-use lib.Dec.{ltb}
+use borrow.Author.Tests.{lt-ltb, le-ltb, ne-eqb, not-true, not-false}
+use lib.Dec.{eqb}
 use lib.ListN.{length}
 use Rattle.table.specs.Records.{mostQueued}
+use Rattle.memory.specs.Search.{pick}
 use Rattle.memory.proofs.Tests.{lt-or-le}
+use Rattle.table.specs.declared.Direction.{Direction}
+use Rattle.table.specs.declared.Object.{Object}
 use Rattle.state.specs.declared.ObjectState.{ObjectState}
-use Rattle.state.specs.Layout.{objectState}
-use Rattle.message.specs.Objects.{Held, around, placeAt}
+use Rattle.state.specs.Layout.{rowSize, objectRow, objectState}
+use Rattle.message.specs.Objects.{Held, Placed, around, placeAt, initialiseAs, initialise}
 
 -- a place of the ring
 pub around-low : (depth p : ℕ) → around depth p ≤ p
@@ -55,3 +58,50 @@ queue-room depth i m h =
 
     room : (n : ℕ) → n ≤ depth → placeAt depth (objectState m i) n + 4 ≤ length m
     room n b = omega (arith, inside n b, h .long)
+
+-- ---- of a row that was read
+
+module _ (depth i : ℕ) (m : List ℕ) (held : Held depth i m) where
+  pub held-row : objectRow i + rowSize ≤ length m
+  held-row = omega (arith, held .number, held .long)
+
+  pub held-row-after : (n : List ℕ) → length n ≡ length m → objectRow i + rowSize ≤ length n
+  held-row-after n same = omega (arith, held-row, same)
+
+  module _ (s : ObjectState) (row : s ≡ objectState m i) where
+    pub held-queue : s .queue ≤ mostQueued
+    held-queue = rw row (queue-room depth i m held .queue)
+
+    pub held-head : s .head ≤ 16
+    held-head = rw row (queue-room depth i m held .head)
+
+    pub held-count : s .count ≤ 16
+    held-count = rw row (queue-room depth i m held .count)
+
+    pub oldest-room : (at : ℕ) → at ≡ placeAt depth s 0 → at + 4 ≤ length m
+    oldest-room at place = rw (place, row) (queue-room depth i m held .room 0 zero-le)
+
+    pub newest-room : (at : ℕ) → at ≡ placeAt depth s (s .count) → at + 4 ≤ length m
+    newest-room at place = rw (place, row) (queue-room depth i m held .room _ (held .count))
+
+pub some-held : (i : ℕ) (m : List ℕ) (s : ObjectState) → s ≡ objectState m i → 0 < objectState m i .count → 1 ≤ s .count
+some-held i m s row some = rw row some
+
+-- memory of the same length keeps an object placed
+pub placed-after : (o : Object) (m n : List ℕ) → Placed o m → length n ≡ length m → Placed o n
+placed-after o m n placed same = record { long = omega (arith, placed .long, same); slot = placed .slot; ipdu = placed .ipdu }
+
+-- ---- a choice by a test that the code made
+
+pub not-found : {A : Type 0} (test found : Bool) (x y : A) → found ≡ test → not found ≡ true → y ≡ pick test x y
+not-found test found x y e failed = rw (sym e ∙ not-true _ failed)
+
+pub found-so : {A : Type 0} (test found : Bool) (x y z : A) → found ≡ test → not found ≡ false → z ≡ x → z ≡ pick test x y
+found-so test found x y z e passed same = rw (sym e ∙ not-false _ passed) same
+
+pub picked-other : {A : Type 0} (a b : ℕ) (x y z : A) → (a ≡ b → ⊥) → z ≡ y → z ≡ pick (eqb a b) x y
+picked-other a b x y z other same = rw (ne-eqb _ _ other) same
+
+pub initialised : (d : Direction) (o : Object) (i v : ℕ) (m n : List ℕ) → o .direction ≡ d → n ≡ initialiseAs d o i v m → n ≡ initialise o i v m
+unfolding initialise
+initialised d o i v m n e does = does ∙ ap (λ (d : Direction). initialiseAs d o i v m) (sym e)

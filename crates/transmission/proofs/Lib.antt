@@ -1,2 +1,3 @@
 pub mod RequestsInRange
 pub mod TicksInRange
+pub mod PeriodTurn

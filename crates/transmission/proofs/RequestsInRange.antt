@@ -2,9 +2,9 @@
 -- Assumes nothing.
 use mathlib.Core.Bool.{Bool, true, false, not, _&&_, _||_}
 use mathlib.Core.List.{List}
-use mathlib.Core.Logic.{_⊎_, ⊎-elim}
+use mathlib.Core.Logic.{⊎-elim}
 use mathlib.Core.Path.{_≡_, sym, ap, _∙_}
-use Prim.Native.Nat.{ℕ, _-_, _^_, _≤_, _<_, max}
+use Prim.Native.Nat.{ℕ, _^_, _≤_, _<_, max}
 use native.Mathlib.Omega.{arith}
 use borrow.Author.Tests.{leb-true, le-leb, eqb-true}
 use lib.Dec.{leb, eqb}
@@ -17,12 +17,10 @@ use Rattle.table.specs.declared.Counts.{Counts}
 use Rattle.table.specs.declared.Direction.the-variants.{Send, Receive}
 use Rattle.table.specs.declared.Ipdu.{Ipdu}
 use Rattle.table.specs.declared.IpduRecord.{IpduRecord}
-use Rattle.table.specs.declared.Mode.{Mode}
-use Rattle.table.specs.declared.Mode.the-variants.{Direct, Periodic, Mixed}
 use Rattle.table.specs.Records.{receiving, sending, ipduRecord}
 use Rattle.table.specs.Rules.{ipduRight, sendIpdu, receiveIpdu}
 use Rattle.table.specs.Decode.{modeOf, ipduOf}
-use Rattle.table.proofs.Facts.{IpduFacts, ipdu-facts}
+use Rattle.table.proofs.Facts.{ipdu-facts}
 use Rattle.state.specs.declared.IpduState.{IpduState}
 use Rattle.state.specs.Layout.{ipduState, withIpduState}
 use Rattle.state.specs.Updates.{withWanted}

@@ -1,12 +1,10 @@
 -- What a tick does to an I-PDU's stored numbers keeps them in their ranges.
 -- Assumes nothing.
 use mathlib.Core.Bool.{Bool, true, false}
-use mathlib.Core.List.{List}
 use Prim.Native.Nat.{ℕ, _-_, _≤_, max}
 use native.Mathlib.Omega.{arith}
 use lib.Dec.{eqb}
 use Rattle.memory.specs.Search.{pick}
-use Rattle.table.specs.declared.Counts.{Counts}
 use Rattle.table.specs.declared.Ipdu.{Ipdu}
 use Rattle.state.specs.declared.IpduState.{IpduState}
 use Rattle.state.specs.Updates.{withRequest, withWanted, withPeriod}

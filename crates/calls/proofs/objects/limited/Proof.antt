@@ -1,14 +1,12 @@
--- `calls::objects::limited` meets its contract.
+-- `calls::objects::limited`: the overflow flag tells which answer it is.
 -- Assumes nothing.
 use borrow.Author.Tests.{eq-eqb, ne-eqb}
 use Rattle.calls.proofs.objects.limited.Statement.{statement}
 use Rattle.calls.proofs.objects.limited.Tie as tie
 
-returns : tie.Need-returns
-returns c = rw (eq-eqb _ _ (c .if1 .taken))
-
-returns-2 : tie.Need-returns-2
-returns-2 c = rw (ne-eqb _ _ (c .if1 .left))
-
 pub limited-spec : {M : Type 1} → statement M
-limited-spec = tie.close (tie.spec returns returns-2)
+limited-spec =
+    tie.close
+    (tie.spec
+    (λ c. rw (eq-eqb _ _ (c .if1 .taken)))
+    (λ c. rw (ne-eqb _ _ (c .if1 .left))))

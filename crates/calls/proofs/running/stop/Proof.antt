@@ -1,4 +1,4 @@
--- `calls::running::stop` meets its contract.
+-- `calls::running::stop`: it writes that the layer does not run.
 -- Assumes nothing.
 use borrow.Author.Needs.{needs}
 use Rattle.state.specs.Layout.{withRunning}
@@ -6,15 +6,11 @@ use Rattle.calls.specs.Calls.{stopIn}
 use Rattle.calls.proofs.running.stop.Statement.{statement}
 use Rattle.calls.proofs.running.stop.Tie as tie
 
-write8-requires : tie.Need-write8-requires
-write8-requires c κs = search needs
-
-same-length : tie.Need-same-length
-same-length c = search needs
-
-returns : tie.Need-returns
-unfolding stopIn withRunning
-returns c = rw (c .before .before .write8 .ensures)
-
 pub stop-spec : {M : Type 1} → statement M
-stop-spec = tie.close (tie.spec write8-requires same-length returns)
+unfolding stopIn withRunning
+stop-spec =
+    tie.close
+    (tie.spec
+    (λ c κs. search needs)
+    (λ c. search needs)
+    (λ c. cc))

@@ -1,29 +1,19 @@
--- `calls::sending::wants` meets its contract.
+-- `calls::sending::wants`: an object with no I-PDU wants none; of another, transfer and mode are looked at.
 -- Assumes nothing.
 use borrow.Author.Needs.{needs}
-use Rattle.calls.proofs.sending.wants.Statement.{statement}
-use Rattle.calls.proofs.sending.wants.Tie as tie
 use borrow.Author.Tests.{eq-eqb, ne-eqb}
 use Rattle.calls.specs.Calls.{wants}
-
-returns : tie.Need-returns
-unfolding wants
-returns c = rw (eq-eqb _ _ (c .if1 .taken))
-
-decode-ipdu-requires : tie.Need-decode-ipdu-requires
-decode-ipdu-requires c κs = c .before .before .pre .inside (ne-eqb _ _ (c .if1 .left))
-
-is-triggered-requires : tie.Need-is-triggered-requires
-is-triggered-requires c κs = search needs
-
-is-periodic-requires : tie.Need-is-periodic-requires
-is-periodic-requires c κs = search needs
-
-returns-2 : tie.Need-returns-2
-unfolding wants
-returns-2 c = rw (ne-eqb _ _ (c .before .before .before .if1 .left), c .before .is-triggered .ensures, c .is-periodic .ensures, c .before .before .decode-ipdu .ensures)
+use Rattle.calls.proofs.sending.wants.Statement.{statement}
+use Rattle.calls.proofs.sending.wants.Tie as tie
 
 pub wants-spec : {M : Type 1} → statement M
+unfolding wants
 wants-spec =
     tie.close
-    (tie.spec returns decode-ipdu-requires is-triggered-requires is-periodic-requires returns-2)
+    (tie.spec
+    (λ c. rw (eq-eqb _ _ (c .if1 .taken)))
+    (λ c κs. c .before .before .pre .inside (ne-eqb _ _ (c .if1 .left)))
+    (λ c κs. search needs)
+    (λ c κs. search needs)
+    (λ c.
+    rw (ne-eqb _ _ (c .before .before .before .if1 .left), c .before .is-triggered .ensures, c .is-periodic .ensures, c .before .before .decode-ipdu .ensures)))

@@ -1,16 +1,14 @@
--- `transmission::requests::is_due` meets its contract.
+-- `transmission::requests::is_due`: it asks for the want and for the mode.
 -- Assumes nothing.
 use borrow.Author.Needs.{needs}
 use Rattle.transmission.specs.Requests.{isDue}
 use Rattle.transmission.proofs.requests.is_due.Statement.{statement}
 use Rattle.transmission.proofs.requests.is_due.Tie as tie
 
-may-go-requires : tie.Need-may-go-requires
-may-go-requires c κs = search needs
-
-returns : tie.Need-returns
-unfolding isDue
-returns c = rw (c .before .may-go .ensures)
-
 pub is-due-spec : {M : Type 1} → statement M
-is-due-spec = tie.close (tie.spec may-go-requires returns)
+unfolding isDue
+is-due-spec =
+    tie.close
+    (tie.spec
+    (λ c κs. search needs)
+    (λ c. rw (c .before .may-go .ensures)))

@@ -1,26 +1,16 @@
--- `transmission::requests::may_go` meets its contract, by the mode.
+-- `transmission::requests::may_go`: the mode tells whether the delay and an open request hold it back.
 -- Assumes nothing.
 use borrow.Author.Needs.{needs}
 use Rattle.transmission.proofs.requests.may_go.Statement.{statement}
 use Rattle.transmission.proofs.requests.may_go.Tie as tie
 
-enum-told : tie.Need-enum-told
-enum-told c = search needs
-
-enum-told-2 : tie.Need-enum-told-2
-enum-told-2 c = search needs
-
-enum-told-3 : tie.Need-enum-told-3
-enum-told-3 c = search needs
-
-returns : tie.Need-returns
-returns c = rw (c .enum-told .given .1)
-
-returns-2 : tie.Need-returns-2
-returns-2 c = search needs
-
-returns-3 : tie.Need-returns-3
-returns-3 c = rw (c .enum-told3 .given .1)
-
 pub may-go-spec : {M : Type 1} → statement M
-may-go-spec = tie.close (tie.spec enum-told enum-told-2 enum-told-3 returns returns-2 returns-3)
+may-go-spec =
+    tie.close
+    (tie.spec
+    (λ c. search needs)
+    (λ c. search needs)
+    (λ c. search needs)
+    (λ c. rw (c .enum-told .given .1))
+    (λ c. search needs)
+    (λ c. rw (c .enum-told3 .given .1)))

@@ -1,16 +1,14 @@
--- `transmission::ticks::period_elapses` meets its contract.
+-- `transmission::ticks::period_elapses`: the countdown falls to 0.
 -- Assumes nothing.
-use Rattle.transmission.specs.Ticks.{periodElapses}
 use borrow.Author.Needs.{needs}
+use Rattle.transmission.specs.Ticks.{periodElapses}
 use Rattle.transmission.proofs.ticks.period_elapses.Statement.{statement}
 use Rattle.transmission.proofs.ticks.period_elapses.Tie as tie
 
-fallen-requires : tie.Need-fallen-requires
-fallen-requires c κs = search needs
-
-returns : tie.Need-returns
-unfolding periodElapses
-returns c = rw (c .before .fallen .ensures)
-
 pub period-elapses-spec : {M : Type 1} → statement M
-period-elapses-spec = tie.close (tie.spec fallen-requires returns)
+unfolding periodElapses
+period-elapses-spec =
+    tie.close
+    (tie.spec
+    (λ c κs. search needs)
+    (λ c. rw (c .before .fallen .ensures)))
