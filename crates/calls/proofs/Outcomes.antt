@@ -31,8 +31,8 @@ use Rattle.transmission.specs.Requests.{ipdu, isDue, afterRequest, copiedToArea
 use Rattle.calls.specs.declared.Answer.{Answer}
 use Rattle.calls.specs.declared.Answer.the-variants.{Done, WrongId, WrongLength, NoMessage, NotRequested}
 use Rattle.calls.specs.Answers.{Outcome, outcome}
-use Rattle.calls.specs.Calls.{HasIpdu, isObject, isIpdu, wants, request, sendOf, sendIn, initialiseIn, limited, receiveQueued, receiveIn}
-use Rattle.calls.specs.Calls.{statusOf, statusIn, marksIn, clearMarksIn, indicationOf, indicationIn, confirmIn}
+use Rattle.calls.specs.Calls.{HasIpdu, isObject, isIpdu, wants, request, sendOf, sendIn, initialiseIn, limited, receiveQueued, receiveIn, statusOf, statusIn}
+use Rattle.calls.specs.Calls.{marksIn, clearMarksIn, indicationOf, indicationIn, confirmIn}
 use Rattle.calls.proofs.Records.{object-there, ipdu-there, ipdu-short, has-ipdu, wants-some}
 
 is-true : {test found : Bool} → found ≡ test → not found ≡ false → test ≡ true

@@ -13,7 +13,7 @@ use Rattle.table.specs.declared.Direction.the-variants.{Send, Receive}
 use Rattle.table.specs.declared.Ipdu.{Ipdu}
 use Rattle.table.specs.Decode.{ipduOf, Right}
 use Rattle.state.specs.Layout.{ipduState}
-use Rattle.message.proofs.Turns.{turn-more, turns-done}
+use Rattle.memory.proofs.Search.{turn-more, turns-done}
 use Rattle.transmission.specs.Requests.{ipdu, isDue}
 use Rattle.transmission.specs.Ticks.{tickDelay, tickDeadline, tickPeriod}
 use Rattle.calls.specs.declared.Answer.the-variants.{Done}

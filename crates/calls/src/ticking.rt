@@ -12,16 +12,16 @@ ghost use Prim.Native.Nat.{_≤_, _<_};
 ghost use lib.ListN.{length};
 ghost use Rattle.table.specs.Records.{mostIpdus};
 ghost use Rattle.memory.specs.Search.{pick};
+ghost use Rattle.table.specs.declared.Direction.the-variants.{Send};
 ghost use Rattle.table.specs.Check.{Shape};
 ghost use Rattle.table.specs.Decode.{Right};
 ghost use Rattle.state.specs.Layout.{memorySize, ipduState, areaSize};
 ghost use Rattle.state.specs.Ranges.{Ready};
 ghost use Rattle.message.specs.Delivery.{markObjects};
 ghost use Rattle.transmission.specs.Requests.{ipdu};
-ghost use Rattle.transmission.specs.Ticks.{tickDelay};
 ghost use Rattle.calls.specs.declared.Answer.the-variants.{Done};
 ghost use Rattle.calls.specs.Answers.{outcome};
-ghost use Rattle.calls.specs.Tick.{sendTick, receiveTick, tickIpdu, tickIn};
+ghost use Rattle.calls.specs.Tick.{receiveTick, tickAs, tickIpdu, tickIn};
 
 // Moves all times on by one tick, and answers the word of the I-PDUs that were requested.
 pub fn tick(t: &[u8], c: Counts, m: &mut [u8], area: &mut [u8]) -> Answer
@@ -59,7 +59,7 @@ fn tick_ipdu(t: &[u8], c: Counts, m: &mut [u8], area: &mut [u8], number: IpduNum
 fn tick_send(t: &[u8], c: Counts, m: &mut [u8], area: &mut [u8], number: IpduNumber, p: Ipdu) -> u32
     requires { ⌜ Shape (now t) c ⌝ }
     requires { ⌜ (number .0 < mostIpdus) × (memorySize ≤ length (now m)) × (areaSize ≤ length (now area)) × (p .length .0 ≤ 8) × (p ≡ ipdu (now t) (number .0)) ⌝ }
-    ensures { λ r. ⌜ outcome (Done r) (now (m .exit)) (now (area .exit)) ≡ sendTick (now (t .entry)) c (number .0) (tickDelay (ipduState (now (m .entry)) (number .0))) (now (area .entry)) (now (m .entry)) ⌝ }
+    ensures { λ r. ⌜ outcome (Done r) (now (m .exit)) (now (area .exit)) ≡ tickAs Send (now (t .entry)) c (number .0) (now (area .entry)) (now (m .entry)) ⌝ }
 {
     let s = transmission::tick_delay(state::ipdu_state(m, number));
     mark_where(

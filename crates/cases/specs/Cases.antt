@@ -1,12 +1,11 @@
 -- Document 01's cases 1 to 11. Cases 6 and 9 also show the bytes handed over, and a slot that stays.
 -- Assumes nothing.
-use mathlib.Core.Bool.{Bool, true, false}
+use mathlib.Core.Bool.{true, false}
 use mathlib.Core.List.{List, [], _∷_, _++_}
-use Prim.Native.Nat.{ℕ}
 use lib.ListN.{replicate}
 use Rattle.bits.specs.declared.Order.the-variants.{Little, Big}
-use Rattle.layer.specs.Step.{Call, start, stop, send, receive, status, marks, clearMarks, startPeriodic, indication, confirm, tick}
-use Rattle.cases.specs.Case.{Line, line, shows, Case, packs, fits, answers, pair, sendIpdu, receiveIpdu, sendObject, receiveObject, area}
+use Rattle.layer.specs.Step.{start, stop, send, receive, status, marks, clearMarks, startPeriodic, indication, confirm, tick}
+use Rattle.cases.specs.Case.{line, shows, Case, packs, fits, answers, pair, sendIpdu, receiveIpdu, sendObject, receiveObject, area}
 
 -- 6: filter 5, initial 0, sends 0, 5, 5, 0: second and fourth pass. Each that passes makes a request; the first is confirmed.
 abbrev pub case6 : Case

@@ -10,9 +10,9 @@ use lib.Dec.{leb, ltb, eqb}
 use Rattle.memory.proofs.Search.{any-false}
 use Rattle.memory.proofs.Tests.{and-split, lt-or-le, eq-or-ne}
 use Rattle.filter.specs.declared.Filter.{Filter}
-use Rattle.filter.specs.declared.Filter.the-variants.{Always, Never, MaskedNewEqualsX, MaskedNewDiffersX, NewIsEqual, NewIsDifferent}
-use Rattle.filter.specs.declared.Filter.the-variants.{MaskedNewEqualsMaskedOld, MaskedNewDiffersMaskedOld, NewIsWithin, NewIsOutside}
-use Rattle.filter.specs.declared.Filter.the-variants.{NewIsGreater, NewIsLessOrEqual, NewIsLess, NewIsGreaterOrEqual, OneEveryN}
+use Rattle.filter.specs.declared.Filter.the-variants.{Always, Never, MaskedNewEqualsX, MaskedNewDiffersX, NewIsEqual, NewIsDifferent, MaskedNewEqualsMaskedOld}
+use Rattle.filter.specs.declared.Filter.the-variants.{MaskedNewDiffersMaskedOld, NewIsWithin, NewIsOutside, NewIsGreater, NewIsLessOrEqual, NewIsLess}
+use Rattle.filter.specs.declared.Filter.the-variants.{NewIsGreaterOrEqual, OneEveryN}
 use Rattle.filter.specs.Filters.{HasPeriod, constants, filterOf, filterRight}
 
 constants-period : (f : Filter) (c d : ℕ) → constants f c d ≡ true → HasPeriod f

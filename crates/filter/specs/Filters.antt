@@ -7,7 +7,9 @@ use lib.Bits.{bitAnd}
 use lib.Dec.{leb, ltb, eqb}
 use lib.ListN.{getD}
 use Rattle.filter.specs.declared.Filter.{Filter}
-use Rattle.filter.specs.declared.Filter.the-variants.{Always, Never, MaskedNewEqualsX, MaskedNewDiffersX, NewIsEqual, NewIsDifferent, MaskedNewEqualsMaskedOld, MaskedNewDiffersMaskedOld, NewIsWithin, NewIsOutside, NewIsGreater, NewIsLessOrEqual, NewIsLess, NewIsGreaterOrEqual, OneEveryN}
+use Rattle.filter.specs.declared.Filter.the-variants.{Always, Never, MaskedNewEqualsX, MaskedNewDiffersX, NewIsEqual, NewIsDifferent, MaskedNewEqualsMaskedOld}
+use Rattle.filter.specs.declared.Filter.the-variants.{MaskedNewDiffersMaskedOld, NewIsWithin, NewIsOutside, NewIsGreater, NewIsLessOrEqual, NewIsLess}
+use Rattle.filter.specs.declared.Filter.the-variants.{NewIsGreaterOrEqual, OneEveryN}
 
 -- whether `new` passes, given old and the occurrence
 unfoldable pub passes : Filter → ℕ → ℕ → ℕ → Bool

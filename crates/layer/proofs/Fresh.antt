@@ -9,7 +9,7 @@ use borrow.Author.Tests.{le-leb}
 use lib.ListN.{length, drop, replicate, length-replicate}
 use Rattle.memory.specs.Bytes.{bytesOf, replaced}
 use Rattle.memory.specs.Search.{fold}
-use Rattle.memory.proofs.Search.{fold-keeps}
+use Rattle.memory.proofs.Search.{fold-keeps, turn-more}
 use Rattle.table.specs.declared.Counts.{Counts}
 use Rattle.table.specs.declared.Direction.{Direction}
 use Rattle.table.specs.declared.Direction.the-variants.{Send, Receive}
@@ -28,7 +28,6 @@ use Rattle.state.proofs.Running.{running-length}
 use Rattle.state.proofs.Turns.{depth-sum}
 use Rattle.message.specs.Objects.{object, pack, Placed}
 use Rattle.message.proofs.ObjectsInRange.{right-placed, pack-length}
-use Rattle.message.proofs.Turns.{turn-more}
 use Rattle.transmission.specs.Requests.{ipdu}
 use Rattle.calls.specs.declared.Answer.the-variants.{Done}
 use Rattle.calls.specs.Answers.{Outcome, outcome}

@@ -13,7 +13,6 @@ use Rattle.table.specs.declared.Verdict.the-variants.{Accepted, WrongHeader, Wr
 use Rattle.table.specs.Check.{check}
 use Rattle.state.specs.Layout.{memorySize, runningAt}
 use Rattle.state.specs.Ranges.{inRange, Ready}
-use Rattle.calls.specs.declared.Answer.{Answer}
 use Rattle.calls.specs.declared.Answer.the-variants.{WrongTable, WrongMemory, Stopped}
 use Rattle.calls.specs.Answers.{Outcome, outcome}
 use Rattle.layer.specs.declared.Admission.{Admission}

@@ -5,7 +5,7 @@ use mathlib.Core.Logic.{_⊎_, inl, inr, ⊎-elim}
 use mathlib.Core.Path.{_≡_, refl, ap, _∙_}
 use Prim.Native.Nat.{ℕ, zero, suc, _+_, _≤_, _<_, zero-le, suc-le-suc}
 use native.Mathlib.Nat.{le-refl, le-of-suc-le-suc, not-suc-le-zero}
-use native.Mathlib.Numerals.{add-one}
+use native.Mathlib.Numerals.{add-one, unary-clauses}
 use native.Mathlib.Omega.{arith}
 use Rattle.memory.specs.Search.{pick, anyBelow, least, sumBelow, fold}
 use Rattle.memory.proofs.Tests.{eq-or-ne, true-or-false, true-not-false, or-split}
@@ -111,3 +111,14 @@ fold-at view (suc n) turn a j h keeps =
     (λ (ne : n ≡ j → ⊥).
     keeps n (le-refl (suc n)) ne ∙ fold-at view n turn a j (omega (arith, h, ne)) (λ k b. keeps k (omega (arith, b))))
     (eq-or-ne n j)
+
+-- ---- a loop as a fold: one turn more, and all of them
+
+module _ {A : Type 0} (turn : ℕ → A → A) (k : ℕ) (a start : A) (so-far : a ≡ fold k turn start) where
+  pub turn-more : (b : A) → b ≡ turn k a → b ≡ fold (k + 1) turn start
+  turn-more b e = simp unary-clauses (e ∙ ap (turn k) so-far)
+
+  pub turns-done : (n : ℕ) → k ≤ n → n ≤ k → a ≡ fold n turn start
+  turns-done n most least =
+      let all : k ≡ n = omega arith in
+      rw all at so-far

@@ -10,6 +10,7 @@ use borrow.Author.Tests.{not-true, not-false}
 use lib.ListN.{getD}
 use native.Mathlib.Decide.{decLt, ℕ-discrete}
 use native.Mathlib.Omega.{arith}
+use Rattle.memory.specs.Search.{pick}
 
 pub lt-or-le : (a b : ℕ) → (a < b) ⊎ (b ≤ a)
 lt-or-le a b = elim (decLt a b) [ yes h ↦ inl h | no h ↦ inr (omega arith) ]
@@ -73,3 +74,9 @@ pub tabulate-at : (n : ℕ) (f : ℕ → ℕ) (k : ℕ) → k < n → getD (tabu
 tabulate-at zero f k h = absurd (not-suc-le-zero h)
 tabulate-at (suc n) f zero h = refl
 tabulate-at (suc n) f (suc k) h = tabulate-at n (λ j. f (suc j)) k (le-of-suc-le-suc h)
+
+pub not-found : {A : Type 0} (test found : Bool) (x y : A) → found ≡ test → not found ≡ true → y ≡ pick test x y
+not-found test found x y e failed = rw (sym e ∙ not-true _ failed)
+
+pub found-so : {A : Type 0} (test found : Bool) (x y z : A) → found ≡ test → not found ≡ false → z ≡ x → z ≡ pick test x y
+found-so test found x y z e passed same = rw (sym e ∙ not-false _ passed) same

@@ -1,12 +1,11 @@
 -- What is asked of one message object, and what its steps give: its row in range, places of its queue inside working memory.
 -- Assumes nothing.
-use mathlib.Core.Bool.{Bool, true, false, not}
 use mathlib.Core.List.{List}
 use mathlib.Core.Logic.{⊎-elim}
 use mathlib.Core.Path.{_≡_, sym, ap, _∙_}
 use Prim.Native.Nat.{ℕ, _+_, _≤_, _<_, zero-le}
 use native.Mathlib.Omega.{arith}
-use borrow.Author.Tests.{lt-ltb, le-ltb, ne-eqb, not-true, not-false}
+use borrow.Author.Tests.{lt-ltb, le-ltb, ne-eqb}
 use lib.Dec.{eqb}
 use lib.ListN.{length}
 use Rattle.table.specs.Records.{mostQueued}
@@ -92,12 +91,6 @@ pub placed-after : (o : Object) (m n : List ℕ) → Placed o m → length n ≡
 placed-after o m n placed same = record { long = omega (arith, placed .long, same); slot = placed .slot; ipdu = placed .ipdu }
 
 -- ---- a choice by a test that the code made
-
-pub not-found : {A : Type 0} (test found : Bool) (x y : A) → found ≡ test → not found ≡ true → y ≡ pick test x y
-not-found test found x y e failed = rw (sym e ∙ not-true _ failed)
-
-pub found-so : {A : Type 0} (test found : Bool) (x y z : A) → found ≡ test → not found ≡ false → z ≡ x → z ≡ pick test x y
-found-so test found x y z e passed same = rw (sym e ∙ not-false _ passed) same
 
 pub picked-other : {A : Type 0} (a b : ℕ) (x y z : A) → (a ≡ b → ⊥) → z ≡ y → z ≡ pick (eqb a b) x y
 picked-other a b x y z other same = rw (ne-eqb _ _ other) same

@@ -1,9 +1,8 @@
--- A loop over the numbers of records is a fold: one turn more, and all of them. What the turn of one object gives, in it or not.
+-- What the turn of one object gives in a walk over all objects, in it or not, and what the turns so far leave in range.
 -- The laws ask for plain values, so that a search finds them. Assumes nothing.
 use mathlib.Core.List.{List}
 use mathlib.Core.Path.{_≡_, sym, ap, _∙_}
-use Prim.Native.Nat.{ℕ, _+_, _^_, _≤_, _<_}
-use native.Mathlib.Numerals.{unary-clauses}
+use Prim.Native.Nat.{ℕ, _^_, _≤_, _<_}
 use native.Mathlib.Omega.{arith}
 use borrow.Author.Tests.{eq-eqb, ne-eqb}
 use lib.Bits.{bitOr}
@@ -20,15 +19,6 @@ use Rattle.state.specs.Ranges.{Ready}
 use Rattle.message.specs.Objects.{object, deliver, unpack, marked}
 use Rattle.message.specs.Delivery.{insideTurn, frameTurn, markTurn}
 use Rattle.message.proofs.ObjectsInRange.{ready-inside, ready-frame}
-
-module _ {A : Type 0} (turn : ℕ → A → A) (k : ℕ) (a start : A) (so-far : a ≡ fold k turn start) where
-  pub turn-more : (b : A) → b ≡ turn k a → b ≡ fold (k + 1) turn start
-  turn-more b e = simp unary-clauses (e ∙ ap (turn k) so-far)
-
-  pub turns-done : (n : ℕ) → k ≤ n → n ≤ k → a ≡ fold n turn start
-  turns-done n most least =
-      let all : k ≡ n = omega arith in
-      rw all at so-far
 
 -- ---- what the turns so far leave in range
 

@@ -23,8 +23,8 @@ use Rattle.state.specs.declared.IpduState.{IpduState}
 use Rattle.state.specs.declared.ObjectState.{ObjectState}
 use Rattle.state.specs.Layout.{rowSize, queues, objectRows, slots, memorySize, runningAt, ipduRow, ipduState, withIpduState, objectRow, objectState, withObjectState}
 use Rattle.state.specs.Ranges.{ipduInRange, objectInRange, ipduOut, objectOut, inRange, Ready}
-use Rattle.state.proofs.RowLaws.{IpduFits, ipdu-length, ipdu-part, ipdu-stored, ipdu-bytes, ipdu-read, ipdu-other, ipdu-keeps-objects}
-use Rattle.state.proofs.RowLaws.{ObjectFits, object-length, object-part, object-stored, object-bytes, object-fits, object-read, object-other, object-keeps-ipdus}
+use Rattle.state.proofs.RowLaws.{IpduFits, ipdu-length, ipdu-part, ipdu-stored, ipdu-bytes, ipdu-read, ipdu-other, ipdu-keeps-objects, ObjectFits, object-length}
+use Rattle.state.proofs.RowLaws.{object-part, object-stored, object-bytes, object-fits, object-read, object-other, object-keeps-ipdus}
 use Rattle.state.proofs.Turns.{depth-sum}
 
 -- ---- an object's numbers in their ranges

@@ -3,7 +3,7 @@
 use mathlib.Core.Bool.{Bool, true, not, _&&_}
 use mathlib.Core.List.{List}
 use mathlib.Core.Path.{_≡_}
-use Prim.Native.Nat.{ℕ, _-_, _≤_, _<_, max}
+use Prim.Native.Nat.{ℕ, _-_, _<_, max}
 use lib.ListN.{length}
 use Rattle.memory.specs.Bytes.{Bytes}
 use lib.Dec.{leb, eqb}

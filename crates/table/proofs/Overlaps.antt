@@ -17,8 +17,7 @@ use Rattle.memory.specs.Search.{pick, anyBelow}
 use Rattle.memory.proofs.Tests.{true-or-false, true-not-false, eq-or-ne, lt-or-le, and-split}
 use Rattle.memory.proofs.Search.{any-none, any-some, any-false, any-true}
 use Rattle.bits.proofs.Numbers.{bit-of-zero}
-use Rattle.bits.specs.Slots.{position}
-use Rattle.bits.proofs.Places.{Run, position-twice}
+use Rattle.bits.proofs.Places.{Run}
 use Rattle.bits.proofs.Masks.{Describes, mask-bit, mask-lt, words-share, words-join}
 use Rattle.table.proofs.Turns.{or-false}
 use Rattle.table.specs.declared.ObjectRecord.{ObjectRecord}

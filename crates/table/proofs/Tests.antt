@@ -10,8 +10,7 @@ use Rattle.table.specs.declared.IpduRecord.{IpduRecord}
 use Rattle.table.specs.declared.ObjectRecord.{ObjectRecord}
 use Rattle.table.specs.declared.References.{References}
 use Rattle.table.specs.Records.{receiving, sending, absent}
-use Rattle.table.specs.Rules.{ipduBytes, ipduRight, sendIpdu, receiveIpdu}
-use Rattle.table.specs.Rules.{sendObject, receiveObject, withoutIpdu, withinIpdu, senderRight, bytesRight, objectRight}
+use Rattle.table.specs.Rules.{ipduBytes, ipduRight, sendIpdu, receiveIpdu, sendObject, receiveObject, withoutIpdu, withinIpdu, senderRight, bytesRight, objectRight}
 use Rattle.table.proofs.Turns.{or-false}
 
 -- ---- an I-PDU record

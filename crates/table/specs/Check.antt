@@ -4,12 +4,11 @@ use mathlib.Core.Bool.{Bool, not, _&&_, _||_}
 use mathlib.Core.List.{List}
 use mathlib.Core.Path.{_≡_}
 use Prim.Native.Nat.{ℕ, suc, _+_, _≤_}
-use lib.Dec.{leb, ltb, eqb}
+use lib.Dec.{ltb, eqb}
 use lib.ListN.{length}
 use Rattle.memory.specs.Search.{pick, anyBelow, least, sumBelow}
 use Rattle.bits.specs.Bits.{owns}
 use Rattle.table.specs.declared.Counts.{Counts}
-use Rattle.table.specs.declared.IpduRecord.{IpduRecord}
 use Rattle.table.specs.declared.ObjectRecord.{ObjectRecord}
 use Rattle.table.specs.declared.Verdict.{Verdict}
 use Rattle.table.specs.declared.Verdict.the-variants.{Accepted, WrongHeader, WrongIpdu, WrongObject}

@@ -19,7 +19,8 @@ ghost use mathlib.Core.Bool.{_||_};
 ghost use mathlib.Core.Path.{_≡_};
 ghost use Prim.Native.Nat.{_≤_};
 ghost use lib.ListN.{length};
-ghost use Rattle.table.specs.Rules.{offsetsRight, headerRight, ipduBytes, ipduRight, sendIpdu, receiveIpdu, orderOf, sendObject, receiveObject, withoutIpdu, withinIpdu, bytesRight, objectRight};
+ghost use Rattle.table.specs.Rules.{offsetsRight, headerRight, ipduBytes, ipduRight, sendIpdu, receiveIpdu, orderOf, sendObject, receiveObject, withoutIpdu};
+ghost use Rattle.table.specs.Rules.{withinIpdu, bytesRight, objectRight};
 
 // Whether the header is right, for a slice of any length.
 pub fn header_right(t: &[u8]) -> bool

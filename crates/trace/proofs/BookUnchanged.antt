@@ -1,6 +1,6 @@
 -- What the book of demand 3 does not see: internal delivery, delivery of a frame, marks, periods, and the rows of I-PDUs.
 -- Assumes nothing.
-use mathlib.Core.Bool.{Bool, true, false, not, _&&_, _||_}
+use mathlib.Core.Bool.{Bool, true, false, _&&_, _||_}
 use mathlib.Core.List.{List}
 use mathlib.Core.Logic.{_⊎_, ⊎-elim}
 use mathlib.Core.Path.{_≡_, refl, ap, _∙_}
@@ -19,9 +19,9 @@ use Rattle.table.specs.Records.{receiving, sending, absent, ipduRecord, objectR
 use Rattle.table.specs.Rules.{references, sendObject, receiveObject}
 use Rattle.table.specs.Check.{depths}
 use Rattle.table.specs.Decode.{objectOf, Right}
-use Rattle.table.proofs.Accepted.{Usable, usable}
-use Rattle.table.proofs.Facts.{ObjectFacts, object-facts}
-use Rattle.table.specs.declared.Direction.the-variants.{Send, Receive}
+use Rattle.table.proofs.Accepted.{usable}
+use Rattle.table.proofs.Facts.{object-facts}
+use Rattle.table.specs.declared.Direction.the-variants.{Send}
 use Rattle.state.specs.declared.IpduState.{IpduState}
 use Rattle.state.specs.declared.ObjectState.{ObjectState}
 use Rattle.state.specs.Layout.{objectState, withObjectState, ipduState, withIpduState}
@@ -106,7 +106,9 @@ module _ (t : List ℕ) (c : Counts) where
   unchanged-deliver i v h received small m ready =
       record {
         ready = ready-deliver t c m ready i h v small;
-        same = same-trans t c m (queued e) (withObjectState (queued e) i row) (queue-same e) (same-object t c (queued e) (ready-queued t c m ready i h v e) i h row kept (λ k. absurd (received k)) (λ k. absurd (received k)));
+        same =
+            same-trans t c m (queued e) (withObjectState (queued e) i row) (queue-same e)
+            (same-object t c (queued e) (ready-queued t c m ready i h v e) i h row kept (λ k. absurd (received k)) (λ k. absurd (received k)));
       }
     where
       e : Bool

@@ -1,17 +1,16 @@
--- Initialise, stop, and the calls that the book of demand 3 does not see keep working memory in agreement with it.
+-- Initialise, stop, and the calls that the book of demand 3 does not see keep working memory a refinement of it.
 -- Assumes nothing.
 use mathlib.Core.Bool.{Bool, true, false, not, _&&_}
 use mathlib.Core.List.{List}
-use mathlib.Core.Logic.{_⊎_, inl, inr, ⊎-elim}
-use mathlib.Core.Path.{_≡_, refl, sym, ap, subst, _∙_}
+use mathlib.Core.Logic.{_⊎_, inl, ⊎-elim}
+use mathlib.Core.Path.{_≡_, refl, sym, subst}
 use Prim.Native.Nat.{ℕ, _+_, _-_, _^_, _≤_, _<_}
 use native.Mathlib.Omega.{arith}
 use borrow.Author.Tests.{eqb-true, eqb-false, ltb-true}
 use lib.Dec.{ltb, eqb}
 use lib.ListN.{length}
-use Rattle.memory.specs.Bytes.{Bytes, bytesOf, value, part, numberAt, replaced}
+use Rattle.memory.specs.Bytes.{Bytes, replaced}
 use Rattle.memory.specs.Search.{pick}
-use Rattle.memory.proofs.Parts.{bytesOf-length, bytesOf-bytes, part-apart, number-replaced, replaced-length, replaced-bytes}
 use Rattle.memory.proofs.Search.{picked}
 use Rattle.memory.proofs.Tests.{true-or-false}
 use Rattle.table.specs.declared.Counts.{Counts}
@@ -20,11 +19,9 @@ use Rattle.table.specs.declared.Direction.the-variants.{Send, Receive}
 use Rattle.table.specs.Records.{receiving, sending, ipduRecord, objectRecord}
 use Rattle.table.specs.Check.{depths}
 use Rattle.table.specs.Decode.{ipduOf}
-use Rattle.state.specs.declared.ObjectState.{ObjectState}
-use Rattle.state.specs.Layout.{runningAt, slotAt, ipduRow, objectRow, objectState, withObjectState, ipduState, withIpduState}
+use Rattle.state.specs.Layout.{slotAt, objectState, withObjectState, ipduState, withIpduState}
 use Rattle.state.specs.Updates.{withOld, withValue, withMarks, withQueue}
 use Rattle.state.specs.Ranges.{Ready}
-use Rattle.state.proofs.RowLaws.{ipdu-read, object-read}
 use Rattle.state.proofs.Ready.{ObjectKept, ready-kept, ready-object, ready-bytes}
 use Rattle.message.specs.Objects.{object, around, dequeue, initialiseAs, initialise}
 use Rattle.message.specs.Delivery.{deliverFrame}
@@ -35,9 +32,10 @@ use Rattle.transmission.proofs.RequestsInRange.{kept-confirmed, ready-send-kept
 use Rattle.calls.specs.Answers.{Outcome}
 use Rattle.calls.specs.Calls.{isObject, isIpdu, stopIn, initialiseIn, receiveIn, statusIn, marksIn, clearMarksIn, periodicIn, indicationIn, confirmIn}
 use Rattle.calls.proofs.Records.{object-there, object-kind, object-sends, object-receives, ipdu-there, ipdu-direction, ipdu-sends, ipdu-receives, ipdu-short}
-use Rattle.trace.specs.Book.{Entry, Book, enter, sends}
-use Rattle.trace.proofs.Refines.{Same, same-object, same-slot, Refines, refines-same, refines-running}
-use Rattle.trace.proofs.BookUnchanged.{BookUnchanged, unchanged-refl, unchanged-then, unchanged-object, unchanged-ipdu, unchanged-send, unchanged-frame, unchanged-mark, unchanged-periods}
+use Rattle.trace.specs.Book.{Book, enter, sends}
+use Rattle.trace.proofs.Refines.{same-object, same-slot, Refines, refines-same, refines-running}
+use Rattle.trace.proofs.BookUnchanged.{BookUnchanged, unchanged-refl, unchanged-then, unchanged-object, unchanged-ipdu, unchanged-send, unchanged-frame}
+use Rattle.trace.proofs.BookUnchanged.{unchanged-mark, unchanged-periods}
 use Rattle.trace.proofs.SendRefines.{refines-entry}
 
 module _ (t : List ℕ) (c : Counts) where
@@ -76,8 +74,14 @@ module _ (t : List ℕ) (c : Counts) where
       (λ (e : ltb i (c .objects) ≡ true).
       let h = ltb-true i (c .objects) e in
       ⊎-elim
-      (λ (k : eqb (objectRecord t (c .ipdus) i .kind) sending ≡ true). rw (e, k) (by-direction _ m i v Send (object-sends t c i k) (initialise-send b m a i v small h (eqb-true (objectRecord t (c .ipdus) i .kind) sending k))))
-      (λ (k : eqb (objectRecord t (c .ipdus) i .kind) sending ≡ false). rw (e, k) (by-direction b m i v Receive (object-receives t c i k) (initialise-receive b m a i v small h (eqb-false (objectRecord t (c .ipdus) i .kind) sending k))))
+      (λ (k : eqb (objectRecord t (c .ipdus) i .kind) sending ≡ true).
+      rw (e, k)
+      (by-direction _ m i v Send (object-sends t c i k)
+      (initialise-send b m a i v small h (eqb-true (objectRecord t (c .ipdus) i .kind) sending k))))
+      (λ (k : eqb (objectRecord t (c .ipdus) i .kind) sending ≡ false).
+      rw (e, k)
+      (by-direction b m i v Receive (object-receives t c i k)
+      (initialise-receive b m a i v small h (eqb-false (objectRecord t (c .ipdus) i .kind) sending k))))
       (true-or-false (eqb (objectRecord t (c .ipdus) i .kind) sending)))
       (λ (e : ltb i (c .objects) ≡ false). rw e a)
       (true-or-false (ltb i (c .objects)))
@@ -152,7 +156,9 @@ module _ (t : List ℕ) (c : Counts) where
         let size : length f ≤ 8 = omega (arith, eqb-true (length f) (ipduRecord t k .length) same, ipdu-short t c (ready .right) k low) in
         let copied : BookUnchanged t c m (replaced (slotAt k) f m) =
         record {
-          ready = ready-bytes t c m ready (slotAt k) f bytes (omega (arith, size, low, ready .right .shape .ipdus, ready .long)) (inl (omega arith, omega (arith, size, low, ready .right .shape .ipdus)));
+          ready =
+              ready-bytes t c m ready (slotAt k) f bytes (omega (arith, size, low, ready .right .shape .ipdus, ready .long))
+              (inl (omega arith, omega (arith, size, low, ready .right .shape .ipdus)));
           same = same-slot t c m ready k low (λ one. omega (arith, one, two)) f size;
         } in
         let frames = unchanged-frame t c k low two (replaced (slotAt k) f m) (copied .ready) in

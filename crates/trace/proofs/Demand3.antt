@@ -5,12 +5,11 @@ use mathlib.Core.List.{List}
 use mathlib.Core.Path.{_≡_, refl, ap}
 use Prim.Native.Nat.{ℕ}
 use Rattle.memory.specs.Bytes.{Bytes}
-use Rattle.table.specs.declared.Counts.{Counts}
 use Rattle.table.specs.Records.{counts}
 use Rattle.calls.specs.Answers.{numberOf, valueOf}
-use Rattle.layer.specs.Step.{Call, start, step}
-use Rattle.trace.specs.Book.{Book, unopened, opened, advance}
-use Rattle.trace.specs.Demand3.{done, CallKept, AllAlike, SameAnswer, Demand3}
+use Rattle.layer.specs.Step.{start, step}
+use Rattle.trace.specs.Book.{unopened, opened, advance}
+use Rattle.trace.specs.Demand3.{done, CallKept, Demand3}
 use Rattle.trace.proofs.FramesInArea.{in-area-none}
 use Rattle.trace.proofs.Steps.{start-accepted, start-follows}
 use Rattle.trace.proofs.KeptLists.{list-kept}

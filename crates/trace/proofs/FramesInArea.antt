@@ -1,6 +1,6 @@
 -- Frames handed over: the slots of a request area that its word names hold the I-PDUs' bytes as they stand in working memory.
 -- Assumes nothing.
-use mathlib.Core.Bool.{Bool, true, false}
+use mathlib.Core.Bool.{true, false}
 use mathlib.Core.List.{List}
 use mathlib.Core.Logic.{_⊎_, ⊎-elim}
 use mathlib.Core.Path.{_≡_, refl, sym, ap, _∙_}
@@ -15,9 +15,9 @@ use Rattle.bits.proofs.Numbers.{bit-of-zero, bit-added}
 use Rattle.table.specs.declared.Counts.{Counts}
 use Rattle.table.specs.Records.{mostIpdus, sending, ipduRecord, objectRecord}
 use Rattle.table.specs.Decode.{ipduOf, objectOf, Right}
-use Rattle.table.proofs.Accepted.{Usable, usable}
+use Rattle.table.proofs.Accepted.{usable}
 use Rattle.state.specs.declared.IpduState.{IpduState}
-use Rattle.state.specs.Layout.{slots, memorySize, slotAt, ipduState, areaSize}
+use Rattle.state.specs.Layout.{memorySize, slotAt, ipduState, areaSize}
 use Rattle.message.specs.Objects.{object}
 use Rattle.state.specs.Updates.{withWanted}
 use Rattle.transmission.specs.Requests.{ipdu, isDue, copiedToArea}

@@ -20,8 +20,6 @@ use Rattle.layer.specs.Step.{Call, step}
 use Rattle.calls.proofs.Records.{ipdu-short}
 use Rattle.trace.specs.Book.{Book, advance}
 use Rattle.trace.specs.Demand3.{Typed, AllTyped, CallKept, AllKept}
-use Rattle.trace.proofs.Refines.{Refines}
-use Rattle.trace.proofs.FramesInArea.{FramesInArea}
 use Rattle.trace.proofs.Steps.{Follows, step-judged, step-follows, step-frames}
 
 -- the bits of the first bytes of a slot

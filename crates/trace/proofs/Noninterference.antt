@@ -1,7 +1,7 @@
 -- Demand 3, two lists: calls alike but for dropped values give the same answers and frames, over memories that are alike in the
 -- first 8,192 bytes, and leave such memories.
 -- Assumes: the table holds bytes, and arguments are of the types that the calls take (`Typed`).
-use mathlib.Core.Bool.{Bool, true, false}
+use mathlib.Core.Bool.{true, false}
 use mathlib.Core.List.{List, [], _∷_}
 use mathlib.Core.Logic.{⊎-elim}
 use mathlib.Core.Path.{_≡_, refl, sym, ap, subst, _∙_}
@@ -10,16 +10,14 @@ use native.Mathlib.Omega.{arith}
 use borrow.Author.Tests.{le-leb}
 use lib.ListN.{length}
 use Rattle.memory.specs.Bytes.{Bytes, part}
-use Rattle.memory.specs.Search.{pick}
 use Rattle.memory.proofs.Tests.{true-or-false}
 use Rattle.table.specs.declared.Counts.{Counts}
 use Rattle.table.specs.declared.Verdict.the-variants.{Accepted}
 use Rattle.table.specs.Records.{sending, ipduRecord}
 use Rattle.table.specs.Check.{check}
 use Rattle.table.proofs.Accepted.{accepted-right}
-use Rattle.state.specs.Layout.{memorySize, slotAt, objectState, withObjectState, areaSize}
+use Rattle.state.specs.Layout.{memorySize, slotAt, objectState, withObjectState}
 use Rattle.state.specs.Updates.{counted}
-use Rattle.calls.specs.declared.Answer.{Answer}
 use Rattle.calls.specs.Answers.{Outcome, numberOf, valueOf}
 use Rattle.layer.specs.Admission.{workingMemory, startAdmission, ifAdmitted}
 use Rattle.layer.specs.Start.{started}
@@ -28,8 +26,6 @@ use Rattle.calls.specs.Tick.{tickIn}
 use Rattle.layer.specs.Step.{Call, start, send, tick, lentBytes, longEnough, describe, step}
 use Rattle.trace.specs.Book.{Book, keeps, advance}
 use Rattle.trace.specs.Demand3.{Typed, AllTyped, wordOf, inside, Alike, same, areas, ticks, dropped, AllAlike, SameAnswer, AllSame}
-use Rattle.trace.proofs.Refines.{Refines}
-use Rattle.trace.proofs.FramesInArea.{FramesInArea}
 use Rattle.trace.proofs.SendFrames.{send-area, send-dropped}
 use Rattle.trace.proofs.TickFrames.{tick-area}
 use Rattle.layer.proofs.Fresh.{started-length}

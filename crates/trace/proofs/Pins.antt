@@ -8,7 +8,7 @@ use Prim.Native.Nat.{ℕ, zero, suc, _<_}
 use native.Mathlib.Omega.{arith}
 use borrow.Author.Tests.{ltb-true, eq-eqb}
 use lib.Dec.{ltb}
-use lib.ListN.{getD, length, replicate}
+use lib.ListN.{length, replicate}
 use Rattle.memory.specs.Bytes.{Bytes, value, bytesOf, part, numberAt, replaced}
 use Rattle.memory.proofs.Tests.{and-split, true-not-false}
 use Rattle.bits.specs.Bits.{bit, frameBit, place, room, number, frameOf, written, packed, unpacked, owns}
@@ -24,10 +24,11 @@ use Rattle.message.specs.Objects.{marked, afterFilter, delivered, deliver, pack
 use Rattle.message.specs.Delivery.{deliverInside}
 use Rattle.transmission.specs.Requests.{isDue, requestMade, afterRequest, copiedToArea}
 use Rattle.calls.specs.Answers.{numberOf, valueOf}
-use Rattle.calls.specs.Calls.{stopIn, wants, request, sendOf, sendIn}
+use Rattle.calls.specs.Calls.{wants, request, sendOf, sendIn}
 use Rattle.layer.specs.Admission.{admission, startAdmission}
 use Rattle.layer.specs.Start.{blank, prepared, started}
-use Rattle.layer.specs.Step.{Call, start, stop, send, initialise, receive, status, marks, clearMarks, startPeriodic, stopPeriodic, indication, confirm, tick, toldSend, toldNothing, Told, toldStart, toldStop, toldInitialise, lentBytes, describe, step}
+use Rattle.layer.specs.Step.{Call, start, stop, send, initialise, receive, status, marks, clearMarks, startPeriodic, stopPeriodic, indication, confirm, tick, toldSend}
+use Rattle.layer.specs.Step.{toldNothing, Told, toldStart, toldStop, toldInitialise, lentBytes, describe, step}
 use Rattle.trace.specs.Book.{Book, unopened, keeps, advance}
 use Rattle.cases.specs.Case.{pair, sendIpdu, sendObject}
 use Rattle.trace.specs.Demand3 as claim

@@ -1,4 +1,4 @@
--- Working memory agrees with the book of demand 3: old values, counts, stopped, and each bit of each send I-PDU. What a call does
+-- Working memory refines the book of demand 3: old values, counts, stopped, and each bit of each send I-PDU. What a call does
 -- apart from start, stop, send and initialise changes none of these.
 -- Assumes nothing.
 use mathlib.Core.Bool.{Bool, true, false}
@@ -15,7 +15,7 @@ use Rattle.memory.specs.Search.{pick, anyBelow}
 use Rattle.memory.proofs.Parts.{part-apart, part-length}
 use Rattle.memory.proofs.Search.{Found, found, nowhere, there, any-some, least-at}
 use Rattle.memory.proofs.Tests.{eq-or-ne, true-or-false, true-not-false, lt-or-le}
-use Rattle.bits.specs.Bits.{bit, frameBit, place, owns, packed}
+use Rattle.bits.specs.Bits.{frameBit, place, owns, packed}
 use Rattle.bits.proofs.RoundTrip.{Fits, packed-own, packed-other}
 use Rattle.bits.proofs.Places.{room-slot}
 use Rattle.table.specs.declared.Counts.{Counts}
@@ -24,11 +24,11 @@ use Rattle.table.specs.declared.ObjectRecord.{ObjectRecord}
 use Rattle.table.specs.Records.{mostIpdus, sending, absent, ipduRecord, objectRecord}
 use Rattle.table.specs.Rules.{orderOf}
 use Rattle.table.specs.Decode.{objectOf, Right}
-use Rattle.table.proofs.Accepted.{Usable, usable}
-use Rattle.table.proofs.Facts.{IpduFacts, ipdu-facts}
+use Rattle.table.proofs.Accepted.{usable}
+use Rattle.table.proofs.Facts.{ipdu-facts}
 use Rattle.state.specs.declared.IpduState.{IpduState}
 use Rattle.state.specs.declared.ObjectState.{ObjectState}
-use Rattle.state.specs.Layout.{rowSize, queues, slots, memorySize, runningAt, withRunning, slotAt, ipduRow, withIpduState, objectRow, objectState, withObjectState}
+use Rattle.state.specs.Layout.{rowSize, queues, memorySize, runningAt, withRunning, slotAt, ipduRow, withIpduState, objectRow, objectState, withObjectState}
 use Rattle.state.specs.Ranges.{Ready}
 use Rattle.state.proofs.RowLaws.{ipdu-part, ipdu-keeps-objects, object-part, object-stored, object-other, object-read}
 use Rattle.state.proofs.Ready.{ObjectKept, kept-fits, object-row, ipdu-row}
@@ -184,7 +184,7 @@ module _ (t : List ℕ) (c : Counts) where
           object-read (replaced (slotAt j) f m) m i
           (λ o w e. part-apart (slotAt j) f m (objectRow i + o) w room (inr (omega (arith, few, h, ready .right .shape .ipdus))))
 
-  -- ---- agreement
+  -- ---- refinement
 
   pub record Refines (b : Book) (m : List ℕ) : Type 0 where
     pub ready : Ready t c m

@@ -10,14 +10,12 @@ use lib.Dec.{leb}
 use lib.ListN.{length, drop, replicate, take-append-drop}
 use Rattle.memory.specs.Bytes.{Bytes, value, part, numberAt}
 use Rattle.memory.proofs.Tests.{true-or-false}
-use Rattle.table.specs.declared.Counts.{Counts}
 use Rattle.table.specs.declared.Verdict.{Verdict}
 use Rattle.table.specs.declared.Verdict.the-variants.{Accepted, WrongHeader, WrongIpdu, WrongObject}
 use Rattle.table.specs.Check.{check}
 use Rattle.table.specs.Records.{counts}
 use Rattle.state.specs.Layout.{memorySize, runningAt}
 use Rattle.state.specs.Ranges.{inRange}
-use Rattle.calls.specs.Answers.{Outcome, numberOf}
 use Rattle.layer.specs.declared.Admission.{Admission}
 use Rattle.layer.specs.declared.Admission.the-variants.{Admitted, Refused}
 use Rattle.layer.specs.Admission.{workingMemory, admissionOf, admission, ifAdmitted}
@@ -25,8 +23,7 @@ use Rattle.layer.specs.Step.{Call, start, lentBytes, longEnough, describe, admi
 use Rattle.trace.specs.Book.{Book, opened, advance}
 use Rattle.trace.specs.Demand3.{AllTyped, done}
 use Rattle.trace.specs.Refusals.{Unchanged, IsRefused, Never6, NotAdmitted}
-use Rattle.trace.proofs.Answered.{Answered}
-use Rattle.trace.proofs.Shows.{Shows, shows}
+use Rattle.trace.proofs.Shows.{shows}
 use Rattle.trace.proofs.Steps.{start-accepted, Follows, start-follows, step-not-6, step-follows}
 
 -- ---- a refused call

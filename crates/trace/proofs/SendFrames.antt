@@ -18,7 +18,7 @@ use Rattle.memory.proofs.Tests.{true-or-false, true-not-false}
 use Rattle.table.specs.declared.Counts.{Counts}
 use Rattle.table.specs.Records.{receiving, sending, objectRecord}
 use Rattle.table.specs.Decode.{objectOf, Right}
-use Rattle.table.proofs.Accepted.{Usable, usable}
+use Rattle.table.proofs.Accepted.{usable}
 use Rattle.state.specs.declared.ObjectState.{ObjectState}
 use Rattle.state.specs.Layout.{objectState, withObjectState, areaSize}
 use Rattle.state.specs.Updates.{counted}
@@ -27,17 +27,17 @@ use Rattle.message.specs.Objects.{object, passesFilter, deliver, pack}
 use Rattle.message.specs.Delivery.{insideTurn, deliverInside}
 use Rattle.message.proofs.ObjectsInRange.{ready-pack}
 use Rattle.transmission.specs.Requests.{ipdu}
-use Rattle.calls.specs.declared.Answer.the-variants.{Done, WrongId}
+use Rattle.calls.specs.declared.Answer.the-variants.{Done}
 use Rattle.calls.specs.Answers.{Outcome, outcome, valueOf}
 use Rattle.calls.specs.Calls.{isObject, wants, request, sendOf, sendIn}
 use Rattle.calls.proofs.Records.{object-there, wants-some}
 use Rattle.trace.specs.Book.{Book, keeps}
-use Rattle.trace.specs.Demand3.{names, inside}
+use Rattle.trace.specs.Demand3.{inside}
 use Rattle.trace.proofs.SendParts.{judge, after, after-ready, sent-as}
-use Rattle.trace.proofs.Refines.{Same, Refines}
-use Rattle.trace.proofs.BookUnchanged.{BookUnchanged, sender-received, unchanged-request}
+use Rattle.trace.proofs.Refines.{Refines}
+use Rattle.trace.proofs.BookUnchanged.{sender-received, unchanged-request}
 use Rattle.trace.proofs.SendRefines.{filtered-out, judge-is}
-use Rattle.trace.proofs.FramesInArea.{FramesInArea, in-area-none, in-area-same, Next, request-tried, in-area-more}
+use Rattle.trace.proofs.FramesInArea.{FramesInArea, in-area-none, in-area-same, request-tried, in-area-more}
 
 module _ (t : List ℕ) (c : Counts) where
   -- no request, no frame

@@ -1,10 +1,10 @@
--- Send and initialise keep working memory in agreement with the book of demand 3.
+-- A kept value and a send keep working memory a refinement of the book of demand 3.
 -- Assumes nothing.
 use mathlib.Core.Bool.{Bool, true, false}
 use mathlib.Core.List.{List}
 use mathlib.Core.Logic.{_⊎_, inl, ⊎-elim}
 use mathlib.Core.Path.{_≡_, refl, sym, ap, ap₂, _∙_}
-use Prim.Native.Nat.{ℕ, _+_, _-_, _%_, _^_, _≤_, _<_}
+use Prim.Native.Nat.{ℕ, _+_, _-_, _^_, _≤_, _<_}
 use native.Mathlib.Omega.{arith}
 use borrow.Author.Tests.{eq-eqb, ne-eqb}
 use lib.ListN.{length}
@@ -13,28 +13,23 @@ use Rattle.memory.specs.Search.{pick}
 use Rattle.memory.proofs.Tests.{eq-or-ne, true-or-false}
 use Rattle.filter.specs.Filters.{nextOccurrence, passes}
 use Rattle.table.specs.declared.Counts.{Counts}
-use Rattle.table.specs.declared.Direction.{Direction}
-use Rattle.table.specs.declared.Direction.the-variants.{Send, Receive}
-use Rattle.table.specs.declared.Object.{Object}
 use Rattle.table.specs.Records.{sending, objectRecord}
 use Rattle.table.specs.Check.{depths}
 use Rattle.table.specs.Decode.{objectOf}
-use Rattle.table.proofs.Accepted.{Usable}
 use Rattle.state.specs.declared.ObjectState.{ObjectState}
 use Rattle.state.specs.Layout.{rowSize, runningAt, slotAt, objectRow, objectState, withObjectState}
 use Rattle.state.specs.Ranges.{Ready}
 use Rattle.state.proofs.RowLaws.{object-part, object-stored, object-other}
 use Rattle.state.proofs.Ready.{ObjectKept, kept-fits, object-row, ready-kept, ready-object}
-use Rattle.message.specs.Objects.{object, Placed, afterFilter, pack, initialise}
+use Rattle.message.specs.Objects.{object, afterFilter, pack}
 use Rattle.message.proofs.ObjectsInRange.{kept-after-filter, ready-pack, ready-placed}
-use Rattle.calls.specs.Answers.{Outcome}
 use Rattle.calls.specs.Calls.{isObject, request, sendIn}
 use Rattle.calls.proofs.Records.{object-kind}
 use Rattle.trace.specs.Book.{Entry, Book, enter, sends, lastOf, keeps, nextCounts, afterSend}
 use Rattle.trace.proofs.SlotRows.{pack-row, pack-front}
 use Rattle.trace.proofs.SendParts.{here, inner, judge, sent-as}
-use Rattle.trace.proofs.Refines.{Same, Refines, refines-same, pack-bits}
-use Rattle.trace.proofs.BookUnchanged.{BookUnchanged, unchanged-inside, unchanged-request}
+use Rattle.trace.proofs.Refines.{Refines, refines-same, pack-bits}
+use Rattle.trace.proofs.BookUnchanged.{unchanged-inside, unchanged-request}
 
 -- ---- a row of a send object set, and perhaps its value packed
 

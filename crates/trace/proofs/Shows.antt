@@ -4,7 +4,7 @@
 use mathlib.Core.Bool.{Bool, true, false, not, _&&_}
 use mathlib.Core.List.{List, []}
 use mathlib.Core.Logic.{⊎-elim}
-use mathlib.Core.Path.{_≡_, refl, sym, ap}
+use mathlib.Core.Path.{_≡_, refl, ap}
 use Prim.Native.Nat.{ℕ}
 use borrow.Author.Tests.{leb-true}
 use lib.Dec.{leb, ltb, eqb}
@@ -15,25 +15,28 @@ use Rattle.memory.proofs.Search.{picked}
 use Rattle.memory.proofs.Tests.{true-or-false}
 use Rattle.table.specs.declared.Counts.{Counts}
 use Rattle.table.specs.Records.{sending, objectRecord}
-use Rattle.state.specs.Layout.{slots, areaSize, objectState}
+use Rattle.state.specs.Layout.{areaSize, objectState}
 use Rattle.state.specs.Ranges.{Ready}
 use Rattle.message.specs.Objects.{object, passesFilter}
 use Rattle.message.specs.Delivery.{deliverInside}
 use Rattle.calls.specs.Answers.{Outcome}
 use Rattle.calls.specs.Calls.{isObject, stopIn, wants, request, sendOf, sendIn, initialiseIn, receiveIn, statusIn, marksIn, clearMarksIn, periodicIn, indicationIn, confirmIn}
 use Rattle.calls.specs.Tick.{tickIn}
-use Rattle.layer.specs.Step.{Call, start, stop, send, initialise, receive, status, marks, clearMarks, startPeriodic, stopPeriodic, indication, confirm, tick, noArea, lentBytes, longEnough, toldNothing, Description, described, describe}
-use Rattle.trace.specs.Book.{Book, sends, initialised, entered}
+use Rattle.layer.specs.Step.{Call, start, stop, send, initialise, receive, status, marks, clearMarks, startPeriodic, stopPeriodic, indication, confirm, tick, noArea}
+use Rattle.layer.specs.Step.{lentBytes, longEnough, toldNothing, Description, described, describe}
+use Rattle.trace.specs.Book.{Book, entered}
 use Rattle.trace.specs.Demand3.{Small, done, wordIn, Judged}
 use Rattle.trace.proofs.Refines.{Refines, refines-same}
 use Rattle.trace.proofs.BookUnchanged.{BookUnchanged}
 use Rattle.trace.proofs.SendRefines.{refines-send}
-use Rattle.trace.proofs.CallsRefine.{refines-initialise, refines-stop, unchanged-receive, unchanged-status, unchanged-marks, unchanged-clear, unchanged-periodic, unchanged-indication, unchanged-confirm}
+use Rattle.trace.proofs.CallsRefine.{refines-initialise, refines-stop, unchanged-receive, unchanged-status, unchanged-marks, unchanged-clear, unchanged-periodic}
+use Rattle.trace.proofs.CallsRefine.{unchanged-indication, unchanged-confirm}
 use Rattle.trace.proofs.StartRefines.{refines-start}
 use Rattle.trace.proofs.FramesInArea.{FramesInArea}
 use Rattle.trace.proofs.SendFrames.{in-area-zero, send-in-area}
 use Rattle.trace.proofs.TickFrames.{unchanged-tick, tick-in-area}
-use Rattle.trace.proofs.Answered.{Answered, did, send-answered, initialise-answered, receive-answered, status-answered, marks-answered, clear-marks-answered, indication-answered, confirm-answered}
+use Rattle.trace.proofs.Answered.{Answered, did, send-answered, initialise-answered, receive-answered, status-answered, marks-answered, clear-marks-answered}
+use Rattle.trace.proofs.Answered.{indication-answered, confirm-answered}
 
 -- the call goes on: it needs no running layer, or its area is long enough and the layer is not stopped
 abbrev pub goesOn : Description → Book → Bool

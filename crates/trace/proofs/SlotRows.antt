@@ -15,7 +15,7 @@ use Rattle.memory.proofs.Tests.{true-or-false}
 use Rattle.bits.specs.Bits.{packed}
 use Rattle.table.specs.declared.Object.{Object}
 use Rattle.table.specs.Records.{mostIpdus, absent}
-use Rattle.state.specs.Layout.{slots, areaSize, runningAt, objectRows, slotAt, ipduState, objectRow, objectState}
+use Rattle.state.specs.Layout.{areaSize, runningAt, objectRows, slotAt, ipduState, objectRow, objectState}
 use Rattle.state.specs.Updates.{withWanted}
 use Rattle.state.proofs.RowLaws.{ipdu-part, object-read}
 use Rattle.message.specs.Objects.{Placed, startBit, pack}

@@ -24,18 +24,18 @@ use Rattle.table.specs.declared.Object.{Object}
 use Rattle.table.specs.Records.{mostQueued, absent, objectRecord}
 use Rattle.table.specs.Check.{depths}
 use Rattle.table.specs.Decode.{objectOf, Right}
-use Rattle.table.proofs.Accepted.{Usable}
 use Rattle.state.specs.declared.IpduState.{IpduState}
 use Rattle.state.specs.declared.ObjectState.{ObjectState}
 use Rattle.state.specs.Layout.{rowSize, slots, memorySize, runningAt, slotAt, ipduRow, ipduState, withIpduState, objectRow, objectState, withObjectState}
 use Rattle.state.specs.Ranges.{ipduInRange, objectInRange, Ready}
-use Rattle.state.proofs.RowLaws.{IpduFits, ObjectFits, ipdu-length, ipdu-part, ipdu-stored, ipdu-bytes, ipdu-other, ipdu-read, object-length, object-part, object-stored, object-bytes, object-other, object-keeps-ipdus}
-use Rattle.state.proofs.Ready.{ObjectKept, kept-object}
+use Rattle.state.proofs.RowLaws.{IpduFits, ObjectFits, ipdu-length, ipdu-part, ipdu-stored, ipdu-bytes, ipdu-other, ipdu-read, object-length, object-part, object-stored}
+use Rattle.state.proofs.RowLaws.{object-bytes, object-other, object-keeps-ipdus}
+use Rattle.state.proofs.Ready.{kept-object}
 use Rattle.state.proofs.Turns.{depth-sum}
 use Rattle.message.specs.Objects.{object, Placed, startBit, pack}
 use Rattle.message.proofs.ObjectsInRange.{right-placed, pack-length, pack-room, packed-slot-length}
 use Rattle.transmission.specs.Requests.{ipdu}
-use Rattle.transmission.proofs.RequestsInRange.{Times, times, SendKept, kept-send, ReceiveKept, kept-receive}
+use Rattle.transmission.proofs.RequestsInRange.{Times, times, kept-send, kept-receive}
 use Rattle.layer.specs.Start.{blank, idle, firstTimer, startIpdu, unused, startAs, startObject, prepared}
 use Rattle.trace.proofs.SlotRows.{pack-row}
 
@@ -225,7 +225,7 @@ module _ (t : List ℕ) (c : Counts) (right : Right t c) (bt : Bytes t) where
           ipdus = λ k few.
               rw (object-keeps-ipdus l n s there k (omega (arith, few, right .shape .ipdus)) ∙ ipdu-read l m k (λ o w e. low (ipduRow k + o) w (omega (arith, e, few, right .shape .ipdus))))
               (b .ipdus k few);
-          objects = below-suc {P = λ (i : ℕ). objectInRange (objectRecord t (c .ipdus) i .depth) (depths t c i) (objectState (withObjectState l n (unused v (object t c n .initial) (depths t c n))) i) ≡ true}
+          objects = below-suc {P = λ (i : ℕ). objectInRange (objectRecord t (c .ipdus) i .depth) (depths t c i) (objectState (withObjectState l n s) i) ≡ true}
               (λ i few. rw (object-other l n s there i (λ e. absurd (omega (arith, few, e))) ∙ rows i) (b .objects i few))
               (rw (object-stored l n s there (unused-fits v (object t c n .initial) (depths t c n) small initial-fits queue-low))
               (unused-range (objectRecord t (c .ipdus) n .depth) v (object t c n .initial) (depths t c n) small initial-fits));

@@ -1,6 +1,6 @@
--- After a start working memory agrees with the book of demand 3 as a start opens it.
+-- After a start working memory refines the book of demand 3 as a start opens it.
 -- Assumes nothing.
-use mathlib.Core.Bool.{Bool, true, false}
+use mathlib.Core.Bool.{true, false}
 use mathlib.Core.List.{List, []}
 use mathlib.Core.Logic.{_⊎_, inl, inr, ⊎-elim}
 use mathlib.Core.Path.{_≡_, refl, sym, ap, subst, _∙_}
@@ -9,7 +9,7 @@ use native.Mathlib.Nat.{zero-div, not-suc-le-zero}
 use native.Mathlib.Omega.{arith}
 use borrow.Author.Tests.{eqb-true, eqb-false, eq-eqb, ne-eqb}
 use lib.Dec.{eqb}
-use lib.ListN.{length, drop, List·getD-eq-default}
+use lib.ListN.{length, drop}
 use lib.Seq.{getD-take, getD-drop}
 use Rattle.memory.specs.Bytes.{Bytes, part}
 use Rattle.memory.specs.Search.{fold}
@@ -30,9 +30,9 @@ use Rattle.message.proofs.ObjectsInRange.{right-placed}
 use Rattle.transmission.specs.Requests.{ipdu}
 use Rattle.calls.proofs.Records.{object-sends, object-receives}
 use Rattle.layer.specs.Start.{blank, idle, firstTimer, startIpdu, unused, startAs, startObject, prepared, started}
-use Rattle.trace.specs.Book.{Entry, Book, enter, openEntry, opened, lastOf, bookBit}
+use Rattle.trace.specs.Book.{Entry, enter, openEntry, opened, lastOf, bookBit}
 use Rattle.trace.proofs.SlotRows.{pack-row}
-use Rattle.trace.proofs.StartInRange.{zero-at, Begun, begun, Set, set-more, all-set, initial-fits, queue-low, unused-fits, prepared-ready}
+use Rattle.trace.proofs.StartInRange.{zero-at, begun, Set, set-more, all-set, initial-fits, queue-low, unused-fits, prepared-ready}
 use Rattle.trace.proofs.Refines.{Refines, refines-running, pack-bits}
 
 -- ---- zeros
@@ -163,16 +163,18 @@ module _ (t : List ℕ) (c : Counts) (right : Right t c) (bt : Bytes t) where
   by-direction n h m x =
       ⊎-elim
       (λ (e : eqb (objectRecord t (c .ipdus) n .kind) sending ≡ true).
-      subst (λ (d : Direction). Opens (suc n) (startAs d (object t c n) n (depths t c n) m)) (sym (object-sends t c n e)) (sent-more n h m x (eqb-true (objectRecord t (c .ipdus) n .kind) sending e)))
+      subst (λ (d : Direction). Opens (suc n) (startAs d (object t c n) n (depths t c n) m)) (sym (object-sends t c n e))
+      (sent-more n h m x (eqb-true (objectRecord t (c .ipdus) n .kind) sending e)))
       (λ (e : eqb (objectRecord t (c .ipdus) n .kind) sending ≡ false).
-      subst (λ (d : Direction). Opens (suc n) (startAs d (object t c n) n (depths t c n) m)) (sym (object-receives t c n e)) (received-more n h m x (eqb-false (objectRecord t (c .ipdus) n .kind) sending e)))
+      subst (λ (d : Direction). Opens (suc n) (startAs d (object t c n) n (depths t c n) m)) (sym (object-receives t c n e))
+      (received-more n h m x (eqb-false (objectRecord t (c .ipdus) n .kind) sending e)))
       (true-or-false (eqb (objectRecord t (c .ipdus) n .kind) sending))
 
   opens : (n : ℕ) → n ≤ c .objects → Opens n (fold n (startObject t c) (fold (c .ipdus) (startIpdu t) blank))
   opens zero h = opens-none
   opens (suc n) h = by-direction n h (fold n (startObject t c) (fold (c .ipdus) (startIpdu t) blank)) (opens n (omega (arith, h)))
 
-  -- working memory after a start agrees with the book that a start opens; before its last step, with one that is stopped
+  -- working memory after a start refines the book that a start opens; before its last step, one that is stopped
   refines-prepared : Refines t c (record { entries = opened t c .entries; counts = opened t c .counts; stopped = true }) (prepared t c)
   unfolding prepared
   refines-prepared =

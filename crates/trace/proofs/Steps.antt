@@ -1,7 +1,7 @@
 -- Any call, admitted or refused, from what its row shows: working memory follows the book, the slots that its word names hold the
 -- I-PDUs, and whether it is done follows from the book.
 -- Assumes: the table holds bytes, and arguments are of the types that the calls take (`Typed`).
-use mathlib.Core.Bool.{Bool, true, false, not, _&&_}
+use mathlib.Core.Bool.{Bool, true, false, _&&_}
 use mathlib.Core.List.{List, [], _∷_, _++_}
 use mathlib.Core.Logic.{⊎-elim}
 use mathlib.Core.Path.{_≡_, refl, sym, ap, subst, _∙_}
@@ -29,16 +29,15 @@ use Rattle.layer.specs.declared.Admission.{Admission}
 use Rattle.layer.specs.declared.Admission.the-variants.{Admitted, Refused}
 use Rattle.layer.specs.Admission.{workingMemory, admission, startAdmissionOf, startAdmission, ifAdmitted}
 use Rattle.layer.specs.Start.{started, startIn}
-use Rattle.layer.specs.Step.{Call, start, Lent, noArea, requests, lentBytes, longEnough, Told, toldStart, toldStop, toldSend, toldInitialise, toldNothing}
-use Rattle.layer.specs.Step.{Description, describe, admissionFor, step, memoryAfter}
+use Rattle.layer.specs.Step.{Call, start, Lent, noArea, requests, lentBytes, longEnough, Told, toldStart, toldStop, toldSend, toldInitialise, toldNothing, Description}
+use Rattle.layer.specs.Step.{describe, admissionFor, step, memoryAfter}
 use Rattle.trace.specs.Book.{Book, opened, entered, next, advance, bookAfter}
 use Rattle.trace.specs.Demand3.{Typed, AllTyped, done, wordIn, wordOf, Judged}
 use Rattle.trace.proofs.Refines.{Refines}
 use Rattle.trace.proofs.FramesInArea.{FramesInArea}
 use Rattle.trace.proofs.StartRefines.{refines-start}
 use Rattle.trace.proofs.SendFrames.{in-area-zero}
-use Rattle.trace.proofs.Answered.{Answered}
-use Rattle.trace.proofs.Shows.{goesOn, Shows, shows}
+use Rattle.trace.proofs.Shows.{goesOn, shows}
 
 -- ---- an accepted start: the table is right, and memory is long enough
 
@@ -64,7 +63,7 @@ start-accepted t m e = cases (check t) refl e
     cases (WrongIpdu k) h e = absurd (not-done e)
     cases (WrongObject i) h e = absurd (not-done e)
 
--- a memory that is long enough and agrees with the book
+-- a memory that is long enough and refines the book
 pub record Follows (t : List ℕ) (c : Counts) (b : Book) (m : List ℕ) : Type 0 where
   pub long : memorySize ≤ length m
   pub agrees : Refines t c b (workingMemory m)

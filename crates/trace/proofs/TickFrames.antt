@@ -15,7 +15,7 @@ use Rattle.state.specs.declared.IpduState.{IpduState}
 use Rattle.state.specs.Layout.{ipduState, areaSize}
 use Rattle.state.specs.Ranges.{Ready}
 use Rattle.message.specs.Delivery.{markObjects}
-use Rattle.transmission.specs.Requests.{ipdu, afterRequest, copiedToArea}
+use Rattle.transmission.specs.Requests.{ipdu, afterRequest}
 use Rattle.transmission.specs.Ticks.{tickDelay, deadlineExpires, tickDeadline, tickPeriod, timerExpires, tickTimer}
 use Rattle.transmission.proofs.RequestsInRange.{SendKept, kept-offered, ready-send-kept, ReceiveKept, ready-receive, ready-receive-kept}
 use Rattle.transmission.proofs.TicksInRange.{kept-tick-delay, kept-tick-deadline, kept-tick-period, kept-tick-timer}
@@ -25,9 +25,8 @@ use Rattle.calls.specs.Tick.{TickResult, sendTick, receiveTick, tickAs, tickIpd
 use Rattle.calls.proofs.Records.{sends-one}
 use Rattle.calls.proofs.Ticks.{tick-word, word-more}
 use Rattle.trace.specs.Demand3.{names}
-use Rattle.trace.proofs.Refines.{Same}
 use Rattle.trace.proofs.BookUnchanged.{BookUnchanged, unchanged-pick, unchanged-refl, unchanged-then, unchanged-mark, unchanged-ipdu, unchanged-send}
-use Rattle.trace.proofs.FramesInArea.{FramesInArea, in-area-none, in-area-same, Tried, quiet, tried-cases, tried-from, Next, in-area-more}
+use Rattle.trace.proofs.FramesInArea.{FramesInArea, in-area-none, in-area-same, Tried, quiet, tried-cases, tried-from, in-area-more}
 
 module _ (t : List ℕ) (c : Counts) where
   -- ---- one I-PDU

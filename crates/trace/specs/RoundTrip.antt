@@ -1,6 +1,6 @@
 -- Demand 2 over lists of calls: what a frame that was handed over unpacks to, and what a receiver then gives.
 -- Assumes nothing.
-use mathlib.Core.Bool.{Bool, true, false}
+use mathlib.Core.Bool.{true, false}
 use mathlib.Core.List.{List, [], _∷_, _++_}
 use mathlib.Core.Path.{_≡_}
 use Prim.Native.Nat.{ℕ, _%_, _^_, _<_}

@@ -1,7 +1,7 @@
 -- Document 01, "Calls", tick: the times of one I-PDU, in its order. The request (4) is in Requests.
 -- Assumes nothing.
 use mathlib.Core.Bool.{Bool, _&&_}
-use Prim.Native.Nat.{ℕ, _-_}
+use Prim.Native.Nat.{_-_}
 use lib.Dec.{eqb}
 use Rattle.memory.specs.Search.{pick}
 use Rattle.table.specs.declared.Ipdu.{Ipdu}

@@ -2,7 +2,7 @@
 -- Assumes nothing.
 use borrow.Author.Needs.{needs}
 use Rattle.calls.specs.Calls.{confirmIn}
-use Rattle.message.proofs.RingPlaces.{not-found}
+use Rattle.memory.proofs.Tests.{not-found}
 use Rattle.calls.proofs.Outcomes.{found-ipdu-row, found-ipdu-record, found-ipdu-number, not-requested, confirms}
 use Rattle.calls.proofs.frames.confirm.Statement.{statement}
 use Rattle.calls.proofs.frames.confirm.Tie as tie

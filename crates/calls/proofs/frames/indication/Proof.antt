@@ -2,7 +2,7 @@
 -- Assumes nothing.
 use borrow.Author.Needs.{needs}
 use Rattle.calls.specs.Calls.{indicationIn}
-use Rattle.message.proofs.RingPlaces.{not-found}
+use Rattle.memory.proofs.Tests.{not-found}
 use Rattle.calls.proofs.Outcomes.{found-ipdu, indicates-bad, indicates-good}
 use Rattle.calls.proofs.frames.indication.Statement.{statement}
 use Rattle.calls.proofs.frames.indication.Tie as tie

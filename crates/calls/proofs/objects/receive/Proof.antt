@@ -2,7 +2,7 @@
 -- Assumes nothing.
 use borrow.Author.Needs.{needs}
 use Rattle.calls.specs.Calls.{receiveIn}
-use Rattle.message.proofs.RingPlaces.{not-found}
+use Rattle.memory.proofs.Tests.{not-found}
 use Rattle.calls.proofs.Outcomes.{found-record, found-row, found-held, received, received-queued}
 use Rattle.calls.proofs.objects.receive.Statement.{statement}
 use Rattle.calls.proofs.objects.receive.Tie as tie

@@ -2,7 +2,7 @@
 -- Assumes nothing.
 use borrow.Author.Needs.{needs}
 use Rattle.calls.specs.Calls.{request}
-use Rattle.message.proofs.RingPlaces.{not-found}
+use Rattle.memory.proofs.Tests.{not-found}
 use Rattle.calls.proofs.Outcomes.{wanted-number, wanted-record, wanted-row, wanted-few, requested}
 use Rattle.calls.proofs.sending.request.Statement.{statement}
 use Rattle.calls.proofs.sending.request.Tie as tie

@@ -3,7 +3,7 @@
 use borrow.Author.Needs.{needs}
 use Rattle.calls.specs.Calls.{sendIn}
 use Rattle.message.proofs.ObjectsInRange.{decoded-period}
-use Rattle.message.proofs.RingPlaces.{not-found}
+use Rattle.memory.proofs.Tests.{not-found}
 use Rattle.calls.proofs.Outcomes.{found-record, found-start, found-object, found-row-after, found-placed-after, found-has-ipdu, send-dropped, send-passed}
 use Rattle.calls.proofs.sending.send.Statement.{statement}
 use Rattle.calls.proofs.sending.send.Tie as tie

@@ -6,7 +6,8 @@ use Prim.Native.Nat.{_-_, _≤_}
 use lib.ListN.{length}
 use Rattle.memory.specs.Search.{fold}
 use Rattle.message.specs.Delivery.{frameTurn, deliverFrame}
-use Rattle.message.proofs.Turns.{turn-more, turns-done, frame-ready}
+use Rattle.memory.proofs.Search.{turn-more, turns-done}
+use Rattle.message.proofs.Turns.{frame-ready}
 use Rattle.message.proofs.delivery.deliver_frame.Statement.{statement}
 use Rattle.message.proofs.delivery.deliver_frame.Tie as tie
 

@@ -6,7 +6,7 @@ use Prim.Native.Nat.{_-_, _≤_}
 use lib.ListN.{length}
 use Rattle.memory.specs.Search.{fold}
 use Rattle.message.specs.Delivery.{markTurn, markObjects}
-use Rattle.message.proofs.Turns.{turn-more, turns-done}
+use Rattle.memory.proofs.Search.{turn-more, turns-done}
 use Rattle.message.proofs.delivery.mark_objects.Statement.{statement}
 use Rattle.message.proofs.delivery.mark_objects.Tie as tie
 

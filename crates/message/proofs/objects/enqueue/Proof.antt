@@ -1,7 +1,7 @@
 -- `message::objects::enqueue`: it is written where it enters.
 -- Assumes nothing.
 use borrow.Author.Needs.{needs}
-use Rattle.message.proofs.RingPlaces.{not-found, found-so}
+use Rattle.memory.proofs.Tests.{not-found, found-so}
 use Rattle.message.proofs.objects.enqueue.Statement.{statement}
 use Rattle.message.proofs.objects.enqueue.Tie as tie
 

@@ -1,11 +1,10 @@
 -- `table::overlap::first_pair` meets its contract. The invariants: no object passed overlaps a lower one; no lower object passed shares a bit with this one.
 -- Assumes nothing.
-use mathlib.Core.Bool.{true, false}
-use mathlib.Core.Path.{_≡_, sym, ap, _∙_}
+use mathlib.Core.Bool.{false}
+use mathlib.Core.Path.{_≡_, sym, _∙_}
 use Prim.Native.Nat.{ℕ, _-_, _≤_, _<_}
 use borrow.Author.Count.{below-more}
 use Rattle.memory.proofs.Search.{any-none, any-some, least-at, least-none}
-use Rattle.table.specs.declared.ObjectRecord.{ObjectRecord}
 use Rattle.table.specs.Records.{objectRecord}
 use Rattle.table.specs.Check.{shareBit, overlapsLower}
 use Rattle.table.proofs.Facts.{placed}

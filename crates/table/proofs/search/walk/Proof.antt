@@ -3,8 +3,7 @@
 use Prim.Native.Nat.{_-_}
 use borrow.Author.Needs.{needs}
 use Rattle.table.specs.Masks.{RightAlone}
-use Rattle.table.proofs.Walk.{Passed, walk-starts, walk-goes-on, walk-ends}
-use Rattle.table.proofs.Walk.{ends-alone, depth-fits, ends-past-depth, next-has-place, ends-overlapping}
+use Rattle.table.proofs.Walk.{Passed, walk-starts, walk-goes-on, walk-ends, ends-alone, depth-fits, ends-past-depth, next-has-place, ends-overlapping}
 use Rattle.table.proofs.search.walk.Statement.{statement}
 use Rattle.table.proofs.search.walk.Tie as tie
 
