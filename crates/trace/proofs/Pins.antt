@@ -23,6 +23,7 @@ use Rattle.state.specs.Ranges.{ipduInRange, objectInRange, inRange}
 use Rattle.message.specs.Objects.{marked, afterFilter, delivered, deliver, pack}
 use Rattle.message.specs.Delivery.{deliverInside}
 use Rattle.transmission.specs.Requests.{isDue, requestMade, afterRequest, copiedToArea}
+use Rattle.calls.specs.declared.Answer.the-variants.{Done}
 use Rattle.calls.specs.Answers.{numberOf, valueOf}
 use Rattle.calls.specs.Calls.{wants, request, sendOf, sendIn}
 use Rattle.layer.specs.Admission.{admission, startAdmission}
@@ -30,12 +31,14 @@ use Rattle.layer.specs.Start.{blank, prepared, started}
 use Rattle.layer.specs.Step.{Call, start, stop, send, initialise, receive, status, marks, clearMarks, startPeriodic, stopPeriodic, indication, confirm, tick, toldSend}
 use Rattle.layer.specs.Step.{toldNothing, Told, toldStart, toldStop, toldInitialise, lentBytes, describe, step}
 use Rattle.trace.specs.Book.{Book, unopened, keeps, advance}
-use Rattle.cases.specs.Case.{pair, sendIpdu, sendObject}
+use Rattle.cases.specs.Case.{pair, sendIpdu, receiveIpdu, sendObject, receiveObject}
 use Rattle.trace.specs.Demand3 as claim
 use Rattle.trace.specs.Demand3.{AllTyped, Alike, same, areas, ticks, dropped, AllAlike, done}
 use Rattle.trace.specs.Refusals.{IsRefused}
 use Rattle.trace.proofs.Refusals.{refused-leaves, never-6}
+use Rattle.trace.specs.RoundTrip.{readingIn, Runs, memoryOf, Takes}
 use Rattle.trace.proofs.Demand3.{demand-3}
+use Rattle.trace.proofs.RoundTrip.{frames-read, reading-round-trip}
 
 -- ---- bytes, by a computed test
 
@@ -260,3 +263,40 @@ unfolding
     value bytesOf part numberAt place room owns filterRight filterOf counts ipduRecord objectRecord offsetsRight headerRight ipduRight references
     objectRight shareBit overlapsLower check ipduOf runningAt ipduState objectState ipduInRange objectInRange inRange admission step
 zeros-stopped = refl
+
+-- ---- the round trip
+
+-- the first frame, read back
+pub first-reading : readingIn (objectRecord table (counts table .ipdus) 0) (claim.frame table 0 (step table (send 0 2748 here) (after (start ∷ []) m) .area)) ≡ 2748
+unfolding value bytesOf part numberAt passes filterOf counts objectRecord advance
+first-reading = frames-read table bytes xs typed-xs m started-m .1 .0 0 0 requested refl refl
+
+-- another board, with a like receive object
+abbrev other : List ℕ
+other = pair (receiveIpdu 0 0) (receiveObject 0)
+
+other-bytes : Bytes other
+unfolding bytesOf
+other-bytes = tested other refl
+
+sender : Runs table [] m
+sender = record { typed = tt; accepted = started-m; running = refl }
+
+receiver : Runs other [] n
+unfolding
+    value bytesOf part numberAt place room owns filterRight filterOf counts ipduRecord objectRecord
+    offsetsRight headerRight ipduRight references objectRight shareBit overlapsLower check startAdmission step
+receiver = record { typed = tt; accepted = refl; running = refl }
+
+takes : Takes other 0 2748 (memoryOf other [] n)
+unfolding value bytesOf part numberAt passes filterOf counts objectRecord objectOf
+takes = record { low = omega arith; kind = refl; passes = refl }
+
+-- receives there what was sent here
+pub received : step other (receive 0)
+    (step other (indication 0 true (claim.frame table 0 (step table (send 0 2748 here) (after (start ∷ []) m) .area))) (memoryOf other [] n) .memory) .answer
+    ≡ Done 2748
+unfolding value bytesOf part numberAt passes filterOf counts ipduRecord objectRecord advance
+received =
+    reading-round-trip table bytes [] m sender (send 0 2748 here) (omega arith, none) 0 0 requested refl refl other other-bytes [] n receiver 0
+    (omega arith) (record { order = refl; start = refl; size = refl; length = refl }) 2748 refl takes .unqueued refl
