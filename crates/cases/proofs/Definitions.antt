@@ -20,31 +20,31 @@ use Rattle.calls.specs.Tick.{tickIpdu, tickIn}
 use Rattle.layer.specs.Start.{blank, prepared, started}
 use Rattle.layer.specs.Step.{step}
 
-unfoldable bitDefinitions : Unit {0}
+unfoldable pub bitDefinitions : Unit {0}
 unfolding value bytesOf part numberAt replaced bit frameBit place room number frameOf written packed unpacked owns position
 bitDefinitions = tt
 
-unfoldable checkDefinitions : Unit {0}
+unfoldable pub checkDefinitions : Unit {0}
 unfolding passes filterOf filterRight counts ipduRecord objectRecord offsetsRight headerRight ipduRight references objectRight shareBit overlapsLower check ipduOf objectOf
 checkDefinitions = tt
 
-unfoldable stateDefinitions : Unit {0}
+unfoldable pub stateDefinitions : Unit {0}
 unfolding runningAt withRunning ipduState withIpduState objectState withObjectState ipduInRange objectInRange inRange
 stateDefinitions = tt
 
-unfoldable messageDefinitions : Unit {0}
+unfoldable pub messageDefinitions : Unit {0}
 unfolding marked afterFilter delivered deliver oldest dequeue pack unpack initialise deliverInside deliverFrame markObjects
 messageDefinitions = tt
 
-unfoldable requestDefinitions : Unit {0}
+unfoldable pub requestDefinitions : Unit {0}
 unfolding isDue requestMade afterRequest copiedToArea confirmed periodSet setPeriods timerSet tickDelay deadlineExpires tickDeadline periodElapses tickPeriod timerExpires tickTimer
 requestDefinitions = tt
 
-unfoldable callDefinitions : Unit {0}
+unfoldable pub callDefinitions : Unit {0}
 unfolding admission startAdmission stopIn wants request sendOf sendIn initialiseIn receiveIn statusIn marksIn clearMarksIn periodicIn indicationIn confirmIn tickIpdu tickIn
 callDefinitions = tt
 
-unfoldable startDefinitions : Unit {0}
+unfoldable pub startDefinitions : Unit {0}
 unfolding blank prepared started step
 startDefinitions = tt
 

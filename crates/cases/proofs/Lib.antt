@@ -2,8 +2,4 @@ pub mod Definitions
 pub mod Computed
 pub mod Cases
 pub mod FilterRules
-pub mod CallRules
-pub mod TimingRules
-pub mod AnswerRules
 pub mod CheckRules
-pub mod Rules

@@ -2,8 +2,4 @@ pub mod Case
 pub mod Lines
 pub mod Cases
 pub mod FilterRules
-pub mod CallRules
-pub mod TimingRules
-pub mod AnswerRules
 pub mod CheckRules
-pub mod Rules

@@ -1,11 +1,11 @@
 -- The rules of document 01 that its own cases leave open, section by section, as one list of proved cases. Assumes nothing.
 use mathlib.Core.List.{List, [], _∷_, _++_}
 use Rattle.cases.specs.Case.{Case}
 use Rattle.cases.specs.FilterRules.{filterRules}
-use Rattle.cases.specs.CallRules.{sendRules, receiveRules}
-use Rattle.cases.specs.TimingRules.{requestRules, timingRules}
-use Rattle.cases.specs.AnswerRules.{answerRules}
+use Rattle.rules.specs.CallRules.{sendRules, receiveRules}
+use Rattle.rules.specs.TimingRules.{requestRules, timingRules}
+use Rattle.rules.specs.AnswerRules.{answerRules}
 use Rattle.cases.specs.CheckRules.{headerRules, ipduRules, objectRules, filterConstantRules, tableRules}
 
 -- "The table"; "Filters"; "Bits" and "Calls"; "Calls", the rules of time; "What comes back"
 abbrev pub sections : List (List Case)

@@ -1,14 +1,14 @@
 -- The rules of document 01 that its own cases leave open hold: one statement over the list. Each section is computed by itself, since
 -- one declaration may take only so many steps. Assumes nothing.
 use mathlib.Core.List.{List, [], _∷_, _++_}
 use Rattle.cases.specs.Case.{Case, AllHold}
-use Rattle.cases.specs.Rules.{sections, casesOf, rules}
+use Rattle.rules.specs.Rules.{sections, casesOf, rules}
 use Rattle.cases.proofs.Definitions.{_&_}
 use Rattle.cases.proofs.FilterRules.{filters-hold}
-use Rattle.cases.proofs.CallRules.{sends-hold, receives-hold}
-use Rattle.cases.proofs.TimingRules.{requests-hold, timing-holds}
-use Rattle.cases.proofs.AnswerRules.{answers-hold}
+use Rattle.rules.proofs.CallRules.{sends-hold, receives-hold}
+use Rattle.rules.proofs.TimingRules.{requests-hold, timing-holds}
+use Rattle.rules.proofs.AnswerRules.{answers-hold}
 use Rattle.cases.proofs.CheckRules.{headers-hold, ipdus-hold, objects-hold, filter-constants-hold, tables-hold}
 
 both-hold : (cs ds : List Case) → AllHold cs → AllHold ds → AllHold (cs ++ ds)
 both-hold [] ds first second = second

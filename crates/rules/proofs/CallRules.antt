@@ -1,9 +1,9 @@
 -- Document 01's rules of the calls but for their timing, proved by computation from the definitions. Assumes nothing.
 use mathlib.Core.Path.{refl}
 use Rattle.cases.proofs.Definitions.{definitions, _&_}
 use Rattle.cases.proofs.Computed.{all-hold}
 use Rattle.cases.specs.Case.{AllHold}
-use Rattle.cases.specs.CallRules.{sendRules, receiveRules}
+use Rattle.rules.specs.CallRules.{sendRules, receiveRules}
 
 pub sends-hold : AllHold sendRules
 unfolding definitions

@@ -1,0 +1,4 @@
+pub mod CallRules
+pub mod TimingRules
+pub mod AnswerRules
+pub mod Rules
