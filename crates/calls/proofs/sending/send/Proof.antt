@@ -24,4 +24,14 @@ send-spec =
     (λ c κs. (search (needs, found-has-ipdu), (search needs, search needs)))
     (λ c. search needs)
     (λ c. search needs)
-    (λ c. search (needs, send-passed)))
+    (λ c.
+    let at-request = c .before .before .before .before in
+    let at-pack = at-request .before .before .before .before .before in
+    let at-filter = at-pack .before .before .before .before .before in
+    let at-inside = at-filter .before .before .before .before in
+    let at-object = at-inside .before .before in
+    let is = at-object .before .before .is-object .ensures in
+    let there = at-object .before .if1 .left in
+    send-passed _ _ _ _ _ _ _ _ _ _ _ is there (at-object .decode-object .ensures) (at-inside .deliver-inside .ensures)
+    (at-filter .filter-sent .ensures .0) (at-filter .filter-sent .ensures .1) _ _ (at-pack .before .before .if2 .left) (at-pack .pack .ensures)
+    (at-request .request .ensures)))
