@@ -33,12 +33,12 @@ use Rattle.transmission.specs.Requests.{ipdu, timerSet}
 use Rattle.calls.specs.Answers.{Outcome}
 use Rattle.calls.specs.Calls.{isObject, request, sendIn, timed, indicationIn}
 use Rattle.calls.proofs.Records.{object-kind, ipdu-short}
+use Rattle.calls.proofs.SlotRows.{pack-behind, request-behind}
+use Rattle.calls.proofs.SendParts.{start-bit, here, inner, judge, after, inner-ready, after-ready, sent-as}
 use Rattle.layer.specs.Admission.{workingMemory}
 use Rattle.layer.specs.Step.{Call, send, indication, toldSend, step}
 use Rattle.trace.specs.Book.{Book, sends, accepts, afterSend, advance}
 use Rattle.trace.specs.RoundTrip.{readingIn, Runs, memoryOf, Takes, Arrived}
-use Rattle.trace.proofs.SlotRows.{pack-behind, request-behind}
-use Rattle.trace.proofs.SendParts.{start-bit, here, inner, judge, after, inner-ready, after-ready, sent-as}
 use Rattle.trace.proofs.Receivers.{ready, Still, Reached, runs-live, still-twice, still-behind, still-other, reached-still, reached, arrives}
 
 -- ---- indication

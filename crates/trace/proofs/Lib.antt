@@ -1,7 +1,4 @@
 pub mod Refusals
-pub mod SlotRows
-pub mod SendParts
-pub mod StartInRange
 pub mod Answered
 pub mod Refines
 pub mod BookUnchanged

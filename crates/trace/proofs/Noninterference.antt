@@ -19,18 +19,19 @@ use Rattle.table.proofs.Accepted.{accepted-right}
 use Rattle.state.specs.Layout.{memorySize, slotAt, objectState, withObjectState}
 use Rattle.state.specs.Updates.{counted}
 use Rattle.calls.specs.Answers.{Outcome, numberOf, valueOf}
-use Rattle.layer.specs.Admission.{workingMemory, startAdmission, ifAdmitted}
-use Rattle.layer.specs.Start.{started}
 use Rattle.calls.specs.Calls.{isObject, sendIn}
 use Rattle.calls.specs.Tick.{tickIn}
+use Rattle.layer.specs.Admission.{workingMemory, startAdmission, ifAdmitted}
+use Rattle.layer.specs.Start.{started}
 use Rattle.layer.specs.Step.{Call, start, send, tick, lentBytes, longEnough, describe, step}
+use Rattle.layer.proofs.Admitted.{front-of}
+use Rattle.layer.proofs.Fresh.{started-length}
 use Rattle.trace.specs.Book.{Book, keeps, advance}
 use Rattle.trace.specs.Demand3.{Typed, AllTyped, wordOf, inside, Alike, same, areas, ticks, dropped, AllAlike, SameAnswer, AllSame}
 use Rattle.trace.proofs.SendFrames.{send-area, send-dropped}
 use Rattle.trace.proofs.TickFrames.{tick-area}
-use Rattle.layer.proofs.Fresh.{started-length}
 use Rattle.trace.proofs.SendRefines.{refines-send}
-use Rattle.trace.proofs.Steps.{front-of, Follows, admissionBy, Admits, goes, stays, admits, admission-is, own-long, step-follows, step-frames}
+use Rattle.trace.proofs.Steps.{Follows, admissionBy, Admits, goes, stays, admits, admission-is, own-long, step-follows, step-frames}
 
 -- the same answer, and memories alike in the first 8,192 bytes
 pub record SameOutcome (o p : Outcome) : Type 0 where

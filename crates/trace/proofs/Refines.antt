@@ -35,9 +35,9 @@ use Rattle.state.proofs.Ready.{ObjectKept, kept-fits, object-row, ipdu-row}
 use Rattle.state.proofs.Running.{running-stored, running-part, running-row, ready-running}
 use Rattle.message.specs.Objects.{object, Placed, startBit, pack}
 use Rattle.message.proofs.ObjectsInRange.{right-placed, pack-room, packed-slot-length}
+use Rattle.calls.proofs.SlotRows.{pack-holds}
+use Rattle.calls.proofs.SendParts.{start-bit, size-some, low-ipdu}
 use Rattle.trace.specs.Book.{Entry, Book, enter, lastOf, messageBit, bookBit}
-use Rattle.trace.proofs.SlotRows.{pack-holds}
-use Rattle.trace.proofs.SendParts.{start-bit, size-some, low-ipdu}
 
 -- ---- a packed slot, bit by bit
 

@@ -31,9 +31,9 @@ use Rattle.calls.specs.declared.Answer.the-variants.{Done}
 use Rattle.calls.specs.Answers.{Outcome, outcome, valueOf}
 use Rattle.calls.specs.Calls.{isObject, wants, request, sendOf, sendIn}
 use Rattle.calls.proofs.Records.{object-there, wants-some}
+use Rattle.calls.proofs.SendParts.{judge, after, after-ready, sent-as}
 use Rattle.trace.specs.Book.{Book, keeps}
 use Rattle.trace.specs.Demand3.{inside}
-use Rattle.trace.proofs.SendParts.{judge, after, after-ready, sent-as}
 use Rattle.trace.proofs.Refines.{Refines}
 use Rattle.trace.proofs.BookUnchanged.{sender-received, unchanged-request}
 use Rattle.trace.proofs.SendRefines.{filtered-out, judge-is}

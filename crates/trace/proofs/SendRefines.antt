@@ -25,9 +25,9 @@ use Rattle.message.specs.Objects.{object, afterFilter, pack}
 use Rattle.message.proofs.ObjectsInRange.{kept-after-filter, ready-pack, ready-placed}
 use Rattle.calls.specs.Calls.{isObject, request, sendIn}
 use Rattle.calls.proofs.Records.{object-kind}
+use Rattle.calls.proofs.SlotRows.{pack-row, pack-front}
+use Rattle.calls.proofs.SendParts.{here, inner, judge, sent-as}
 use Rattle.trace.specs.Book.{Entry, Book, enter, sends, lastOf, keeps, nextCounts, afterSend}
-use Rattle.trace.proofs.SlotRows.{pack-row, pack-front}
-use Rattle.trace.proofs.SendParts.{here, inner, judge, sent-as}
 use Rattle.trace.proofs.Refines.{Refines, refines-same, pack-bits}
 use Rattle.trace.proofs.BookUnchanged.{unchanged-inside, unchanged-request}
 

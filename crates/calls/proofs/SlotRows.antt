@@ -9,20 +9,21 @@ use native.Mathlib.Omega.{arith}
 use lib.Dec.{eqb}
 use lib.ListN.{length, take, replicate, length-append, length-replicate}
 use lib.Seq.{take-append-seam}
-use Rattle.memory.specs.Bytes.{value, part, numberAt, replaced}
-use Rattle.memory.proofs.Parts.{part-apart, part-replaced, part-length, part-front, replaced-length}
+use Rattle.memory.specs.Bytes.{Bytes, value, part, numberAt, replaced}
+use Rattle.memory.proofs.Parts.{part-apart, part-replaced, part-length, part-front, replaced-length, replaced-bytes}
 use Rattle.memory.proofs.Tests.{true-or-false}
 use Rattle.bits.specs.Bits.{packed}
+use Rattle.bits.proofs.RoundTrip.{packed-bytes}
 use Rattle.table.specs.declared.Object.{Object}
 use Rattle.table.specs.Records.{mostIpdus, absent}
-use Rattle.state.specs.Layout.{areaSize, runningAt, objectRows, slotAt, ipduState, objectRow, objectState}
+use Rattle.state.specs.Layout.{areaSize, runningAt, slots, objectRows, slotAt, ipduState, objectRow, objectState}
 use Rattle.state.specs.Updates.{withWanted}
 use Rattle.state.proofs.RowLaws.{ipdu-part, object-read}
 use Rattle.message.specs.Objects.{Placed, startBit, pack}
 use Rattle.message.proofs.ObjectsInRange.{pack-room, packed-slot-length}
 use Rattle.transmission.specs.Requests.{ipdu, afterRequest, copiedToArea}
 use Rattle.calls.specs.Calls.{wants, request}
 use Rattle.calls.proofs.Records.{wants-some}
 
 -- ---- packing
 
@@ -44,17 +45,33 @@ module _ (o : Object) (v : ℕ) (m : List ℕ) (placed : Placed o m) where
   pub pack-row : (j : ℕ) → objectState (pack o v m) j ≡ objectState m j
   pack-row j = object-read (pack o v m) m j (λ p w b. pack-behind (objectRow j + p) w (omega arith))
 
-  -- packing leaves the byte of a stopped layer
-  pub pack-front : runningAt (pack o v m) ≡ runningAt m
-  unfolding pack runningAt numberAt
-  pack-front =
+  -- nor anything before the slots
+  pub pack-part : (j w : ℕ) → j + w ≤ slots → part j w (pack o v m) ≡ part j w m
+  unfolding pack
+  pack-part j w low =
       ⊎-elim
       (λ (e : eqb (o .ipdu .0) absent ≡ true). rw e)
       (λ (e : eqb (o .ipdu .0) absent ≡ false).
       rw e
-      (ap value
-      (part-apart (slotAt (o .ipdu .0)) (packed (o .order) (startBit o) (o .size .0) v (part (slotAt (o .ipdu .0)) 8 m)) m 0 1
-      (omega (arith, packed-slot-length o v m placed e, pack-room o v m placed e)) (inl (omega arith)))))
+      (part-apart (slotAt (o .ipdu .0)) (packed (o .order) (startBit o) (o .size .0) v (part (slotAt (o .ipdu .0)) 8 m)) m j w
+      (omega (arith, packed-slot-length o v m placed e, pack-room o v m placed e)) (inl (omega (arith, low)))))
+      (true-or-false (eqb (o .ipdu .0) absent))
+
+  -- as the byte of a stopped layer
+  pub pack-front : runningAt (pack o v m) ≡ runningAt m
+  unfolding runningAt numberAt
+  pack-front = ap value (pack-part 0 1 (omega arith))
+
+  -- packing keeps bytes bytes
+  pub pack-bytes : Bytes m → Bytes (pack o v m)
+  unfolding pack
+  pack-bytes bs =
+      ⊎-elim
+      (λ (e : eqb (o .ipdu .0) absent ≡ true). rw e bs)
+      (λ (e : eqb (o .ipdu .0) absent ≡ false).
+      rw e
+      (replaced-bytes (slotAt (o .ipdu .0)) (packed (o .order) (startBit o) (o .size .0) v (part (slotAt (o .ipdu .0)) 8 m)) m
+      (packed-bytes (o .order) (startBit o) (o .size .0) v (part (slotAt (o .ipdu .0)) 8 m)) bs))
       (true-or-false (eqb (o .ipdu .0) absent))
 
   -- the slot holds what was packed
