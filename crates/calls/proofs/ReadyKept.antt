@@ -40,6 +40,10 @@ use Rattle.calls.proofs.Records.{object-there, object-kind, ipdu-there,
 use Rattle.calls.proofs.Outcomes.{copied-ready}
 use Rattle.calls.proofs.SendParts.{here, judge, after, after-ready, sent-as}
 
+-- the mark of a confirm
+pub mark-few : (good : Bool) → pick good markSent markSendError ≤ 15
+mark-few good = picked (λ (mark : ℕ). mark ≤ 15) good markSent markSendError (λ y. omega arith) (λ n. omega arith)
+
 module _ (t : List ℕ) (c : Counts) where
   ready-pick : (b : Bool) (x y : Outcome) → (b ≡ true → Ready t c (x .memory)) → Ready t c (y .memory) → Ready t c (pick b x y .memory)
   ready-pick b x y p q = picked (λ (o : Outcome). Ready t c (o .memory)) b x y p (λ e. q)
@@ -84,7 +88,7 @@ module _ (t : List ℕ) (c : Counts) where
             (ready-pick (judge t c m ready i is v small area) _ _
             (λ p. ready-request i is area (pack (object t c i) v n) (ready-pack t c n next i (here t c m ready i is v small area) v)) next)
 
-    ready-initialise-as : (i v : ℕ) → v < 2 ^ 32 → i < c .objects → (d : Direction) → Ready t c (initialiseAs d (object t c i) i v m)
+    pub ready-initialise-as : (i v : ℕ) → v < 2 ^ 32 → i < c .objects → (d : Direction) → Ready t c (initialiseAs d (object t c i) i v m)
     ready-initialise-as i v small h Send =
         let s = withOld v (objectState m i) in
         ready-pack t c (withObjectState m i s)
@@ -186,7 +190,7 @@ module _ (t : List ℕ) (c : Counts) where
         ready-pick (isIpdu t c sending k) _ _
         (λ e.
         ready-pick (eqb (ipduState m k .requested) 0) _ _ (λ z. ready)
-        (ready-marked k (pick good markSent markSendError) (picked (λ (mark : ℕ). mark ≤ 15) good markSent markSendError (λ y. omega arith) (λ n. omega arith))
+        (ready-marked k (pick good markSent markSendError) (mark-few good)
         (withIpduState m k (confirmed good (ipdu t k) (ipduState m k))) (ready-confirmed k good e)))
         ready
 

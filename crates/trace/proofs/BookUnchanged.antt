@@ -4,14 +4,14 @@ use mathlib.Core.Bool.{Bool, true, false, _&&_, _||_}
 use mathlib.Core.List.{List}
 use mathlib.Core.Logic.{_⊎_, ⊎-elim}
 use mathlib.Core.Path.{_≡_, refl, ap, _∙_}
-use Prim.Native.Nat.{ℕ, _-_, _^_, _≤_, _<_}
+use Prim.Native.Nat.{ℕ, zero, suc, _^_, _≤_, _<_}
 use native.Mathlib.Omega.{arith}
 use borrow.Author.Tests.{eqb-true, ne-eqb}
 use lib.Dec.{eqb}
 use Rattle.memory.specs.Bytes.{bytesOf, replaced}
 use Rattle.memory.specs.Search.{pick, fold}
 use Rattle.memory.proofs.Parts.{bytesOf-length}
-use Rattle.memory.proofs.Search.{picked, fold-keeps}
+use Rattle.memory.proofs.Search.{picked}
 use Rattle.memory.proofs.Tests.{and-split, or-cases}
 use Rattle.table.specs.declared.Counts.{Counts}
 use Rattle.table.specs.declared.ObjectRecord.{ObjectRecord}
@@ -21,22 +21,20 @@ use Rattle.table.specs.Check.{depths}
 use Rattle.table.specs.Decode.{objectOf, Right}
 use Rattle.table.proofs.Accepted.{usable}
 use Rattle.table.proofs.Facts.{object-facts}
-use Rattle.table.specs.declared.Direction.the-variants.{Send}
-use Rattle.state.specs.declared.IpduState.{IpduState}
 use Rattle.state.specs.declared.ObjectState.{ObjectState}
 use Rattle.state.specs.Layout.{objectState, withObjectState, ipduState, withIpduState}
 use Rattle.state.specs.Ranges.{Ready}
-use Rattle.state.proofs.Ready.{ObjectKept, ready-kept, ready-object}
+use Rattle.state.proofs.Ready.{ready-kept}
 use Rattle.message.specs.Objects.{object, passesFilter, placeAt, enters, marked, delivered, deliver, unpack}
 use Rattle.message.specs.Delivery.{insideTurn, deliverInside, frameTurn, deliverFrame, markTurn, markObjects}
 use Rattle.message.proofs.RingPlaces.{queue-room}
-use Rattle.message.proofs.ObjectsInRange.{kept-marked, kept-delivered, ready-held, ready-deliver, ready-queued, unpack-lt}
-use Rattle.state.specs.Updates.{withWanted}
-use Rattle.transmission.specs.Requests.{ipdu, afterRequest, hasPeriod, periodSet, periodTurn, setPeriods}
-use Rattle.transmission.proofs.RequestsInRange.{SendKept, kept-wanted, kept-offered, ready-send, ready-send-kept, ready-period-turn}
+use Rattle.message.proofs.ObjectsInRange.{kept-marked, ready-held, ready-queued, ready-inside, ready-frame, ready-mark}
+use Rattle.transmission.specs.Requests.{ipdu, hasPeriod, periodSet, periodTurn, setPeriods}
+use Rattle.transmission.proofs.RequestsInRange.{ready-periods}
 use Rattle.calls.specs.Answers.{Outcome}
 use Rattle.calls.specs.Calls.{isObject, wants, request}
-use Rattle.calls.proofs.Records.{object-there, object-kind, ipdu-sends, wants-some}
+use Rattle.calls.proofs.Records.{object-there, wants-some}
+use Rattle.calls.proofs.SendParts.{low-ipdu}
 use Rattle.trace.proofs.Refines.{Same, same-refl, same-trans, same-object, same-ipdu, same-queue}
 
 -- ---- a send object has no sending object, and an object that has one is received
@@ -73,43 +71,22 @@ module _ (t : List ℕ) (c : Counts) (right : Right t c) (i : ℕ) (h : i < c .o
       kinds
 
 module _ (t : List ℕ) (c : Counts) where
-  -- a memory in range that the book cannot tell from m
-  pub record BookUnchanged (m n : List ℕ) : Type 0 where
-    pub ready : Ready t c n
-    pub same : Same t c m n
-
-  pub unchanged-refl : (m : List ℕ) → Ready t c m → BookUnchanged m m
-  unchanged-refl m ready = record { ready = ready; same = same-refl t c m }
-
-  pub unchanged-then : (l m n : List ℕ) → BookUnchanged l m → BookUnchanged m n → BookUnchanged l n
-  unchanged-then l m n a b = record { ready = b .ready; same = same-trans t c l m n (a .same) (b .same) }
-
   -- turns that the book does not see
-  pub unchanged-fold : (n : ℕ) (turn : ℕ → List ℕ → List ℕ) → ((k : ℕ) → k < n → (l : List ℕ) → Ready t c l → BookUnchanged l (turn k l))
-      → (m : List ℕ) → Ready t c m → BookUnchanged m (fold n turn m)
-  unchanged-fold n turn each m ready =
-      fold-keeps (BookUnchanged m) n turn (λ k h l u. unchanged-then m l (turn k l) u (each k h l (u .ready))) m
-      (unchanged-refl m ready)
-
-  -- the row of an object that is not sent, or keeps old and count
-  pub unchanged-object : (j : ℕ) → j < c .objects → (s : ObjectState) (m : List ℕ) → Ready t c m
-      → ObjectKept (objectRecord t (c .ipdus) j .depth) (depths t c j) s
-      → (objectRecord t (c .ipdus) j .kind ≡ sending → s .old ≡ objectState m j .old)
-      → (objectRecord t (c .ipdus) j .kind ≡ sending → s .occurrence ≡ objectState m j .occurrence) → BookUnchanged m (withObjectState m j s)
-  unchanged-object j h s m ready kept old count =
-      record { ready = ready-object t c m ready j h s kept; same = same-object t c m ready j h s kept old count }
+  unchanged-fold : (n : ℕ) (turn : ℕ → List ℕ → List ℕ) (m : List ℕ) → ((k : ℕ) → k ≤ n → Ready t c (fold k turn m))
+      → ((k : ℕ) → k < n → (l : List ℕ) → Ready t c l → Same t c l (turn k l)) → Same t c m (fold n turn m)
+  unchanged-fold zero turn m ready each = same-refl t c m
+  unchanged-fold (suc n) turn m ready each =
+      same-trans t c m (fold n turn m) (turn n (fold n turn m))
+      (unchanged-fold n turn m (λ k h. ready k (omega (arith, h))) (λ k h. each k (omega (arith, h))))
+      (each n (omega arith) (fold n turn m) (ready n (omega arith)))
 
   -- a delivery to an object that is not sent
-  unchanged-deliver : (i v : ℕ) → i < c .objects → (objectRecord t (c .ipdus) i .kind ≡ sending → ⊥) → v < 2 ^ 32 → (m : List ℕ) → Ready t c m
-      → BookUnchanged m (deliver (object t c i) i v m)
+  unchanged-deliver : (i v : ℕ) → i < c .objects → (objectRecord t (c .ipdus) i .kind ≡ sending → ⊥) → (m : List ℕ) → Ready t c m
+      → Same t c m (deliver (object t c i) i v m)
   unfolding deliver objectOf
-  unchanged-deliver i v h received small m ready =
-      record {
-        ready = ready-deliver t c m ready i h v small;
-        same =
-            same-trans t c m (queued e) (withObjectState (queued e) i row) (queue-same e)
-            (same-object t c (queued e) (ready-queued t c m ready i h v e) i h row kept (λ k. absurd (received k)) (λ k. absurd (received k)));
-      }
+  unchanged-deliver i v h received m ready =
+      same-trans t c m (queued e) (withObjectState (queued e) i row) (queue-same e)
+      (same-object t c (queued e) (ready-queued t c m ready i h v e) i h row (λ one. absurd (received one)))
     where
       e : Bool
       e = enters (passesFilter (object t c i) v (objectState m i)) (object t c i .depth) (objectState m i)
@@ -120,37 +97,34 @@ module _ (t : List ℕ) (c : Counts) where
       row : ObjectState
       row = delivered (passesFilter (object t c i) v (objectState m i)) (object t c i .depth) v (objectState m i)
 
-      kept : ObjectKept (objectRecord t (c .ipdus) i .depth) (depths t c i) (delivered (passesFilter (object t c i) v (objectState m i)) (object t c i .depth) v (objectState m i))
-      kept = kept-delivered (objectRecord t (c .ipdus) i .depth) (depths t c i) (passesFilter (object t c i) v (objectState m i)) v (objectState m i) small (ready-kept t c m ready i h)
-
       queue-same : (b : Bool) → Same t c m (pick b (replaced (placeAt (object t c i .depth) (objectState m i) (objectState m i .count)) (bytesOf 4 v) m) m)
       queue-same true =
           let room = queue-room (object t c i .depth) i m (ready-held t c m ready i h) .room (objectState m i .count) (ready-kept t c m ready i h .count) in
           same-queue t c m ready (placeAt (object t c i .depth) (objectState m i) (objectState m i .count)) (bytesOf 4 v) (omega (arith, room, bytesOf-length 4 v)) (omega arith)
       queue-same false = same-refl t c m
 
-  pub unchanged-pick : (b : Bool) (m n : List ℕ) → Ready t c m → (b ≡ true → BookUnchanged m n) → BookUnchanged m (pick b n m)
-  unchanged-pick b m n ready u = picked (BookUnchanged m) b n m u (λ e. unchanged-refl m ready)
+  pub unchanged-pick : (b : Bool) (m n : List ℕ) → (b ≡ true → Same t c m n) → Same t c m (pick b n m)
+  unchanged-pick b m n u = picked (Same t c m) b n m u (λ e. same-refl t c m)
 
   -- internal delivery
-  pub unchanged-inside : (i v : ℕ) → i < c .objects → v < 2 ^ 32 → (m : List ℕ) → Ready t c m → BookUnchanged m (deliverInside t c i v m)
+  pub unchanged-inside : (i v : ℕ) → i < c .objects → v < 2 ^ 32 → (m : List ℕ) → Ready t c m → Same t c m (deliverInside t c i v m)
   unfolding deliverInside
-  unchanged-inside i v h small =
-      unchanged-fold (c .objects) (insideTurn t c i v)
+  unchanged-inside i v h small m ready =
+      unchanged-fold (c .objects) (insideTurn t c i v) m (λ n most. ready-inside t c i v n small most m ready)
       (λ j b l r.
-      unchanged-pick (eqb (objectRecord t (c .ipdus) j .sender) i) l (deliver (object t c j) j v l) r
+      unchanged-pick (eqb (objectRecord t (c .ipdus) j .sender) i) l (deliver (object t c j) j v l)
       (λ e.
       unchanged-deliver j v b
-      (λ one. omega (arith, send-no-sender t c (r .right) j b one, eqb-true (objectRecord t (c .ipdus) j .sender) i e, h, r .right .shape .objects)) small l r))
+      (λ one. omega (arith, send-no-sender t c (r .right) j b one, eqb-true (objectRecord t (c .ipdus) j .sender) i e, h, r .right .shape .objects)) l r))
 
   -- delivery of a frame of a receive I-PDU
-  pub unchanged-frame : (k : ℕ) → k < c .ipdus → ipduRecord t k .direction ≡ receiving → (m : List ℕ) → Ready t c m → BookUnchanged m (deliverFrame t c k m)
+  pub unchanged-frame : (k : ℕ) → k < c .ipdus → ipduRecord t k .direction ≡ receiving → (m : List ℕ) → Ready t c m → Same t c m (deliverFrame t c k m)
   unfolding deliverFrame
-  unchanged-frame k h two =
-      unchanged-fold (c .objects) (frameTurn t c k)
+  unchanged-frame k h two m ready =
+      unchanged-fold (c .objects) (frameTurn t c k) m (λ n most. ready-frame t c k n most m ready)
       (λ j b l r.
-      unchanged-pick (eqb (objectRecord t (c .ipdus) j .ipdu) k) l (deliver (object t c j) j (unpack (object t c j) l) l) r
-      (λ e. unchanged-deliver j (unpack (object t c j) l) b (received j b l r (eqb-true (objectRecord t (c .ipdus) j .ipdu) k e)) (unpack-lt t c l r j b) l r))
+      unchanged-pick (eqb (objectRecord t (c .ipdus) j .ipdu) k) l (deliver (object t c j) j (unpack (object t c j) l) l)
+      (λ e. unchanged-deliver j (unpack (object t c j) l) b (received j b l r (eqb-true (objectRecord t (c .ipdus) j .ipdu) k e)) l r))
     where
       received : (j : ℕ) → j < c .objects → (l : List ℕ) → Ready t c l → objectRecord t (c .ipdus) j .ipdu ≡ k → objectRecord t (c .ipdus) j .kind ≡ sending → ⊥
       received j b l r e one =
@@ -161,49 +135,29 @@ module _ (t : List ℕ) (c : Counts) where
           omega (arith, direction, there, one)
 
   -- marks
-  pub unchanged-mark : (k mark : ℕ) → mark ≤ 15 → (m : List ℕ) → Ready t c m → BookUnchanged m (markObjects t c k mark m)
+  pub unchanged-mark : (k mark : ℕ) → mark ≤ 15 → (m : List ℕ) → Ready t c m → Same t c m (markObjects t c k mark m)
   unfolding markObjects marked
-  unchanged-mark k mark low =
-      unchanged-fold (c .objects) (markTurn t c k mark)
+  unchanged-mark k mark low m ready =
+      unchanged-fold (c .objects) (markTurn t c k mark) m (λ n most. ready-mark t c k mark n low most m ready)
       (λ j b l r.
-      unchanged-pick (eqb (objectRecord t (c .ipdus) j .ipdu) k) l (withObjectState l j (marked mark (objectState l j))) r
+      unchanged-pick (eqb (objectRecord t (c .ipdus) j .ipdu) k) l (withObjectState l j (marked mark (objectState l j)))
       (λ e.
-      unchanged-object j b (marked mark (objectState l j)) l r
-      (kept-marked (objectRecord t (c .ipdus) j .depth) (depths t c j) mark (objectState l j) low (ready-kept t c l r j b)) (λ one. refl) (λ one. refl)))
-
-  -- the row of an I-PDU, sent or received
-  pub unchanged-ipdu : (k : ℕ) → k < c .ipdus → (s : IpduState) → (m : List ℕ) → Ready t c m → Ready t c (withIpduState m k s)
-      → BookUnchanged m (withIpduState m k s)
-  unchanged-ipdu k h s m ready next = record { ready = next; same = same-ipdu t c m ready k h s }
-
-  pub unchanged-send : (k : ℕ) → k < c .ipdus → ipdu t k .direction ≡ Send → (s : IpduState) (m : List ℕ) → Ready t c m → SendKept (ipdu t k) s
-      → BookUnchanged m (withIpduState m k s)
-  unchanged-send k h d s m ready kept = unchanged-ipdu k h s m ready (ready-send t c m ready k h d s kept)
+      same-object t c l r j b (marked mark (objectState l j))
+      (λ one. (kept-marked (objectRecord t (c .ipdus) j .depth) (depths t c j) mark (objectState l j) low (ready-kept t c l r j b), refl, refl))))
 
   -- a request that a send wants, made or postponed
-  pub unchanged-request : (i : ℕ) → isObject t c sending i ≡ true → (area m : List ℕ) → Ready t c m → BookUnchanged m (request t (object t c i) area m .memory)
+  pub unchanged-request : (i : ℕ) → isObject t c sending i ≡ true → (area m : List ℕ) → Ready t c m → Same t c m (request t (object t c i) area m .memory)
   unfolding request objectOf
   unchanged-request i is area m ready =
-      picked (λ (o : Outcome). BookUnchanged m (o .memory)) (wants t (object t c i)) _ _
-      (λ w.
-      let here = usable t c (ready .right) i (object-there t c sending i is) .ipdu (wants-some t (object t c i) w) in
-      let d = ipdu-sends t (objectRecord t (c .ipdus) i .ipdu) (here .1 ∙ object-kind t c sending i is) in
-      unchanged-send (objectRecord t (c .ipdus) i .ipdu) (here .0) d
-      (afterRequest (ipdu t (objectRecord t (c .ipdus) i .ipdu)) (withWanted 1 (ipduState m (objectRecord t (c .ipdus) i .ipdu)))) m ready
-      (kept-offered (ipdu t (objectRecord t (c .ipdus) i .ipdu)) (withWanted 1 (ipduState m (objectRecord t (c .ipdus) i .ipdu)))
-      (kept-wanted (ipdu t (objectRecord t (c .ipdus) i .ipdu)) (ipduState m (objectRecord t (c .ipdus) i .ipdu))
-      (ready-send-kept t c m ready (objectRecord t (c .ipdus) i .ipdu) (here .0) d))))
-      (λ w. unchanged-refl m ready)
+      picked (λ (o : Outcome). Same t c m (o .memory)) (wants t (object t c i)) _ _
+      (λ w. same-ipdu t c m ready (objectRecord t (c .ipdus) i .ipdu) (low-ipdu t c (ready .right) i (object-there t c sending i is) (wants-some t (object t c i) w)) _)
+      (λ w. same-refl t c m)
 
   -- periods
-  pub unchanged-periods : (on : Bool) (m : List ℕ) → Ready t c m → BookUnchanged m (setPeriods on t c m)
+  pub unchanged-periods : (on : Bool) (m : List ℕ) → Ready t c m → Same t c m (setPeriods on t c m)
   unfolding setPeriods
-  unchanged-periods on =
-      unchanged-fold (c .ipdus) (periodTurn on t)
+  unchanged-periods on m ready =
+      unchanged-fold (c .ipdus) (periodTurn on t) m (λ n most. ready-periods t c on n most m ready)
       (λ k b l r.
-      unchanged-pick (hasPeriod (ipdu t k .mode)) l (withIpduState l k (periodSet on (ipdu t k) (ipduState l k))) r
-      (λ e. unchanged-ipdu k b (periodSet on (ipdu t k) (ipduState l k)) l r (turn-ready k b l r e)))
-    where
-      turn-ready : (k : ℕ) → k < c .ipdus → (l : List ℕ) → Ready t c l → hasPeriod (ipdu t k .mode) ≡ true
-          → Ready t c (withIpduState l k (periodSet on (ipdu t k) (ipduState l k)))
-      turn-ready k b l r e = rw e at (ready-period-turn t c on k b l r)
+      unchanged-pick (hasPeriod (ipdu t k .mode)) l (withIpduState l k (periodSet on (ipdu t k) (ipduState l k)))
+      (λ e. same-ipdu t c l r k b (periodSet on (ipdu t k) (ipduState l k))))

@@ -3,9 +3,9 @@
 -- Assumes nothing.
 use mathlib.Core.Bool.{Bool, true, false}
 use mathlib.Core.List.{List}
-use mathlib.Core.Logic.{_⊎_, inl, inr, ⊎-elim}
+use mathlib.Core.Logic.{inl, inr, ⊎-elim}
 use mathlib.Core.Path.{_≡_, refl, sym, ap, ap₂, _∙_}
-use Prim.Native.Nat.{ℕ, _+_, _-_, _*_, _≤_, _<_}
+use Prim.Native.Nat.{ℕ, _+_, _*_, _≤_, _<_}
 use native.Mathlib.Omega.{arith}
 use borrow.Author.Tests.{eqb-true, eqb-false, eq-eqb, ne-eqb}
 use lib.Dec.{eqb}
@@ -101,21 +101,23 @@ module _ (t : List ℕ) (c : Counts) where
 
   -- an object's row, where a send object keeps old and count
   pub same-object : (m : List ℕ) → Ready t c m → (j : ℕ) → j < c .objects → (s : ObjectState)
+      → (objectRecord t (c .ipdus) j .kind ≡ sending
       → ObjectKept (objectRecord t (c .ipdus) j .depth) (Rattle.table.specs.Check.depths t c j) s
-      → (objectRecord t (c .ipdus) j .kind ≡ sending → s .old ≡ objectState m j .old)
-      → (objectRecord t (c .ipdus) j .kind ≡ sending → s .occurrence ≡ objectState m j .occurrence) → Same m (withObjectState m j s)
+      × (s .old ≡ objectState m j .old)
+      × (s .occurrence ≡ objectState m j .occurrence))
+      → Same m (withObjectState m j s)
   unfolding runningAt numberAt
-  same-object m ready j h s kept old count =
+  same-object m ready j h s keeps =
       record {
         running = ap value (object-part m j s room 0 1 (inl (omega arith)));
         old = λ i b k.
             ⊎-elim
-            (λ (e : i ≡ j). rw (e, stored) (old (rw e at k)))
+            (λ (e : i ≡ j). rw (e, stored (rw e at k)) (keeps (rw e at k) .1))
             (λ (ne : i ≡ j → ⊥). ap (λ (x : ObjectState). x .old) (object-other m j s room i ne))
             (eq-or-ne i j);
         count = λ i b k.
             ⊎-elim
-            (λ (e : i ≡ j). rw (e, stored) (count (rw e at k)))
+            (λ (e : i ≡ j). rw (e, stored (rw e at k)) (keeps (rw e at k) .2))
             (λ (ne : i ≡ j → ⊥). ap (λ (x : ObjectState). x .occurrence) (object-other m j s room i ne))
             (eq-or-ne i j);
         slot = λ k b d. object-part m j s room (slotAt k) 8 (inl (omega (arith, b, ready .right .shape .ipdus)));
@@ -124,8 +126,8 @@ module _ (t : List ℕ) (c : Counts) where
       room : objectRow j + rowSize ≤ length m
       room = object-row t c m ready j h
 
-      stored : objectState (withObjectState m j s) j ≡ s
-      stored = object-stored m j s room (kept-fits t c m ready j h s kept)
+      stored : objectRecord t (c .ipdus) j .kind ≡ sending → objectState (withObjectState m j s) j ≡ s
+      stored one = object-stored m j s room (kept-fits t c m ready j h s (keeps one .0))
 
   -- an I-PDU's row
   pub same-ipdu : (m : List ℕ) → Ready t c m → (k : ℕ) → k < c .ipdus → (s : IpduState) → Same m (withIpduState m k s)

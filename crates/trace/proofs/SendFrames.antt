@@ -70,7 +70,7 @@ module _ (t : List ℕ) (c : Counts) where
           in-area-more t c (ready .right) k 0 low area m fits (ready .long) (pow-pos k) (λ j e. absurd (in-area-none j e)) (in-area-zero area m) o
           (request-tried t c (ready .right) i is w area m) in
           in-area-same t c (valueOf (o .answer)) (o .area) m (o .memory) (ready .right) (rw (zero-add (valueOf (o .answer))) at (x .hands))
-          (unchanged-request t c i is area m ready .same .slot)
+          (unchanged-request t c i is area m ready .slot)
 
   -- ---- send
 
