@@ -31,8 +31,8 @@ use Rattle.calls.specs.Calls.{isObject, isIpdu, stopIn, initialiseIn, receiveIn
 use Rattle.calls.proofs.Records.{object-there, object-kind, object-sends, object-receives, ipdu-there, ipdu-direction, ipdu-short}
 use Rattle.calls.proofs.ReadyKept.{mark-few, ready-initialise-as, ready-copied, ready-delivered, ready-confirmed}
 use Rattle.trace.specs.Book.{Book, enter, sends}
-use Rattle.trace.proofs.Refines.{Same, same-refl, same-trans, same-object, same-ipdu, same-slot, Refines, refines-same, refines-running}
-use Rattle.trace.proofs.BookUnchanged.{unchanged-frame, unchanged-mark, unchanged-periods}
+use Rattle.trace.proofs.Refines.{Refines, refines-unchanged, refines-running}
+use Rattle.trace.proofs.BookUnchanged.{BookUnchanged, unchanged-refl, unchanged-then, unchanged-object, unchanged-ipdu, unchanged-slot, unchanged-frame, unchanged-mark, unchanged-periods}
 use Rattle.trace.proofs.SendRefines.{refines-entry}
 
 module _ (t : List ℕ) (c : Counts) where
@@ -50,8 +50,8 @@ module _ (t : List ℕ) (c : Counts) where
 
     initialise-receive : (objectRecord t (c .ipdus) i .kind ≡ sending → ⊥) → Refines t c b (initialiseAs Receive (object t c i) i v m)
     initialise-receive received =
-        refines-same t c b m (initialiseAs Receive (object t c i) i v m) a (ready-initialise-as t c m (a .ready) i v small h Receive)
-        (same-object t c m (a .ready) i h (withOld v (withValue v (withQueue 0 0 0 (objectState m i)))) (λ one. absurd (received one)))
+        refines-unchanged t c b m (initialiseAs Receive (object t c i) i v m) a (ready-initialise-as t c m (a .ready) i v small h Receive)
+        (unchanged-object t c m (a .ready) i h (withOld v (withValue v (withQueue 0 0 0 (objectState m i)))) (λ one. absurd (received one)))
 
   by-direction : (b : Book) (m : List ℕ) (i v : ℕ) (d : Direction) → object t c i .direction ≡ d → Refines t c b (initialiseAs d (object t c i) i v m)
       → Refines t c b (initialise (object t c i) i v m)
@@ -80,15 +80,15 @@ module _ (t : List ℕ) (c : Counts) where
 
   -- ---- calls that the book does not see
 
-  pick-unchanged : (b : Bool) (m : List ℕ) (x y : Outcome) → (b ≡ true → Same t c m (x .memory)) → Same t c m (y .memory) → Same t c m (pick b x y .memory)
-  pick-unchanged b m x y p q = picked (λ (o : Outcome). Same t c m (o .memory)) b x y p (λ e. q)
+  pick-unchanged : (b : Bool) (m : List ℕ) (x y : Outcome) → (b ≡ true → BookUnchanged t c m (x .memory)) → BookUnchanged t c m (y .memory) → BookUnchanged t c m (pick b x y .memory)
+  pick-unchanged b m x y p q = picked (λ (o : Outcome). BookUnchanged t c m (o .memory)) b x y p (λ e. q)
 
   module _ (m : List ℕ) (ready : Ready t c m) where
-    as-found : Same t c m m
-    as-found = same-refl t c m
+    as-found : BookUnchanged t c m m
+    as-found = unchanged-refl t c m
 
     -- a value taken from a queue of a receive object
-    pub unchanged-receive : (i : ℕ) → Same t c m (receiveIn t c i m .memory)
+    pub unchanged-receive : (i : ℕ) → BookUnchanged t c m (receiveIn t c i m .memory)
     unfolding receiveIn dequeue
     unchanged-receive i =
         pick-unchanged (isObject t c receiving i) m _ _
@@ -96,32 +96,32 @@ module _ (t : List ℕ) (c : Counts) where
         let two = object-kind t c receiving i is in
         pick-unchanged (eqb (objectRecord t (c .ipdus) i .depth) 0) m _ _ (λ e. as-found)
         (pick-unchanged (eqb (objectState m i .count) 0) m _ _ (λ z. as-found)
-        (same-object t c m ready i (object-there t c receiving i is) _ (λ one. absurd (omega (arith, one, two))))))
+        (unchanged-object t c m ready i (object-there t c receiving i is) _ (λ one. absurd (omega (arith, one, two))))))
         as-found
 
-    pub unchanged-status : (i : ℕ) → Same t c m (statusIn t c i m .memory)
+    pub unchanged-status : (i : ℕ) → BookUnchanged t c m (statusIn t c i m .memory)
     unfolding statusIn
     unchanged-status i = pick-unchanged (isObject t c receiving i && not (eqb (objectRecord t (c .ipdus) i .depth) 0)) m _ _ (λ e. as-found) as-found
 
-    pub unchanged-marks : (i : ℕ) → Same t c m (marksIn c i m .memory)
+    pub unchanged-marks : (i : ℕ) → BookUnchanged t c m (marksIn c i m .memory)
     unfolding marksIn
     unchanged-marks i = pick-unchanged (ltb i (c .objects)) m _ _ (λ e. as-found) as-found
 
-    pub unchanged-clear : (i : ℕ) → Same t c m (clearMarksIn c i m .memory)
+    pub unchanged-clear : (i : ℕ) → BookUnchanged t c m (clearMarksIn c i m .memory)
     unfolding clearMarksIn
     unchanged-clear i =
         pick-unchanged (ltb i (c .objects)) m _ _
         (λ e.
         let h = ltb-true i (c .objects) e in
-        same-object t c m ready i h (withMarks 0 (objectState m i))
+        unchanged-object t c m ready i h (withMarks 0 (objectState m i))
         (λ one. (kept-marks (objectRecord t (c .ipdus) i .depth) (depths t c i) 0 (objectState m i) (omega arith) (ready-kept t c m ready i h), refl, refl)))
         as-found
 
-    pub unchanged-periodic : (on : Bool) → Same t c m (periodicIn on t c m .memory)
+    pub unchanged-periodic : (on : Bool) → BookUnchanged t c m (periodicIn on t c m .memory)
     unfolding periodicIn
     unchanged-periodic on = unchanged-periods t c on m ready
 
-    pub unchanged-indication : (k : ℕ) (good : Bool) (f : List ℕ) → Bytes f → Same t c m (indicationIn t c k good f m .memory)
+    pub unchanged-indication : (k : ℕ) (good : Bool) (f : List ℕ) → Bytes f → BookUnchanged t c m (indicationIn t c k good f m .memory)
     unfolding indicationIn
     unchanged-indication k false f bytes = pick-unchanged (isIpdu t c receiving k) m _ _ (λ e. unchanged-mark t c k 4 (omega arith) m ready) as-found
     unchanged-indication k true f bytes =
@@ -133,21 +133,21 @@ module _ (t : List ℕ) (c : Counts) where
         (λ same.
         let exact = eqb-true (length f) (ipduRecord t k .length) same in
         let copied = replaced (slotAt k) f m in
-        same-trans t c m copied _
-        (same-slot t c m ready k low (λ one. omega (arith, one, two)) f (omega (arith, exact, ipdu-short t c (ready .right) k low)))
-        (same-trans t c copied (deliverFrame t c k copied) _ (unchanged-frame t c k low two copied (ready-copied t c m ready k low f bytes exact))
-        (same-ipdu t c (deliverFrame t c k copied) (ready-delivered t c m ready k low f bytes exact) k low _)))
+        unchanged-then t c m copied _
+        (unchanged-slot t c m ready k low (λ one. omega (arith, one, two)) f (omega (arith, exact, ipdu-short t c (ready .right) k low)))
+        (unchanged-then t c copied (deliverFrame t c k copied) _ (unchanged-frame t c k low two copied (ready-copied t c m ready k low f bytes exact))
+        (unchanged-ipdu t c (deliverFrame t c k copied) (ready-delivered t c m ready k low f bytes exact) k low _)))
         as-found)
         as-found
 
-    pub unchanged-confirm : (k : ℕ) (good : Bool) → Same t c m (confirmIn t c k good m .memory)
+    pub unchanged-confirm : (k : ℕ) (good : Bool) → BookUnchanged t c m (confirmIn t c k good m .memory)
     unfolding confirmIn
     unchanged-confirm k good =
         pick-unchanged (isIpdu t c sending k) m _ _
         (λ e.
         let closed = withIpduState m k (confirmed good (ipdu t k) (ipduState m k)) in
         pick-unchanged (eqb (ipduState m k .requested) 0) m _ _ (λ z. as-found)
-        (same-trans t c m closed _ (same-ipdu t c m ready k (ipdu-there t c sending k e) _)
+        (unchanged-then t c m closed _ (unchanged-ipdu t c m ready k (ipdu-there t c sending k e) _)
         (unchanged-mark t c k (pick good markSent markSendError) (mark-few good) closed (ready-confirmed t c m ready k good e))))
         as-found
 

@@ -1,7 +1,7 @@
 pub mod Refusals
 pub mod Answered
-pub mod Refines
 pub mod BookUnchanged
+pub mod Refines
 pub mod SendRefines
 pub mod CallsRefine
 pub mod FramesInArea

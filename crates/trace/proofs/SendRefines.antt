@@ -29,7 +29,7 @@ use Rattle.calls.proofs.SlotRows.{pack-row, pack-front}
 use Rattle.calls.proofs.SendParts.{here, inner, judge, inner-ready, sent-as}
 use Rattle.calls.proofs.ReadyKept.{ready-request}
 use Rattle.trace.specs.Book.{Entry, Book, enter, sends, lastOf, keeps, nextCounts, afterSend}
-use Rattle.trace.proofs.Refines.{Refines, refines-same, pack-bits}
+use Rattle.trace.proofs.Refines.{Refines, refines-unchanged, pack-bits}
 use Rattle.trace.proofs.BookUnchanged.{unchanged-inside, unchanged-request}
 
 -- ---- a row of a send object set, and perhaps its value packed
@@ -151,7 +151,7 @@ module _ (t : List ℕ) (c : Counts) (b : Book) (m : List ℕ) (a : Refines t c 
 
   first-agrees : Refines t c b (inner t c m (a .ready) i is v small area)
   first-agrees =
-      refines-same t c b m first a (inner-ready t c m (a .ready) i is v small area) (unchanged-inside t c i v low small m (a .ready))
+      refines-unchanged t c b m first a (inner-ready t c m (a .ready) i is v small area) (unchanged-inside t c i v low small m (a .ready))
 
   row-kept : ObjectKept (objectRecord t (c .ipdus) i .depth) (depths t c i) (afterFilter (judge t c m (a .ready) i is v small area) v (objectState first i))
   row-kept =
@@ -175,7 +175,7 @@ module _ (t : List ℕ) (c : Counts) (b : Book) (m : List ℕ) (a : Refines t c 
   -- a request changes nothing that the book speaks of
   request-agrees : (e : Book) (n : List ℕ) → Refines t c e n → Refines t c e (request t (object t c i) area n .memory)
   request-agrees e n x =
-      refines-same t c e n (request t (object t c i) area n .memory) x (ready-request t c i is area n (x .ready)) (unchanged-request t c i is area n (x .ready))
+      refines-unchanged t c e n (request t (object t c i) area n .memory) x (ready-request t c i is area n (x .ready)) (unchanged-request t c i is area n (x .ready))
 
   pub refines-sent : Refines t c (afterSend t c b i v) (sendIn t c i v area m .memory)
   refines-sent =

@@ -27,7 +27,8 @@ use Rattle.layer.specs.Step.{Call, start, stop, send, initialise, receive, stat
 use Rattle.layer.specs.Step.{lentBytes, longEnough, toldNothing, Description, described, describe}
 use Rattle.trace.specs.Book.{Book, entered}
 use Rattle.trace.specs.Demand3.{Small, done, wordIn, Judged}
-use Rattle.trace.proofs.Refines.{Same, Refines, refines-same}
+use Rattle.trace.proofs.BookUnchanged.{BookUnchanged}
+use Rattle.trace.proofs.Refines.{Refines, refines-unchanged}
 use Rattle.trace.proofs.SendRefines.{refines-send}
 use Rattle.trace.proofs.CallsRefine.{refines-initialise, refines-stop, unchanged-receive, unchanged-status, unchanged-marks, unchanged-clear, unchanged-periodic}
 use Rattle.trace.proofs.CallsRefine.{unchanged-indication, unchanged-confirm}
@@ -57,11 +58,11 @@ pub record Shows (t : List ℕ) (c : Counts) (call : Call) (d : Description) : T
 module _ (t : List ℕ) (c : Counts) where
   -- ---- a call that the book does not see
 
-  unchanged-book : (b : Book) (m n : List ℕ) (went : Bool) → Refines t c b m → Ready t c n → Same t c m n → Refines t c (pick went b b) n
-  unchanged-book b m n went a next same = picked (λ (x : Book). Refines t c x n) went b b (λ e. refines-same t c b m n a next same) (λ e. refines-same t c b m n a next same)
+  unchanged-book : (b : Book) (m n : List ℕ) (went : Bool) → Refines t c b m → Ready t c n → BookUnchanged t c m n → Refines t c (pick went b b) n
+  unchanged-book b m n went a next same = picked (λ (x : Book). Refines t c x n) went b b (λ e. refines-unchanged t c b m n a next same) (λ e. refines-unchanged t c b m n a next same)
 
   unchanged-row : (call : Call) (bytes : List ℕ) (does : List ℕ → Counts → List ℕ → Outcome) → ((m : List ℕ) → Answered call m [] (does t c m))
-      → ((m : List ℕ) → Ready t c m → Bytes bytes → Ready t c (does t c m .memory) × Same t c m (does t c m .memory))
+      → ((m : List ℕ) → Ready t c m → Bytes bytes → Ready t c (does t c m .memory) × BookUnchanged t c m (does t c m .memory))
       → Shows t c call (described noArea true toldNothing bytes does)
   unchanged-row call bytes does answered unseen =
       record {
@@ -139,13 +140,21 @@ module _ (t : List ℕ) (c : Counts) where
   shows (receive i) = unchanged-row (receive i) [] (λ t c. receiveIn t c i) (λ m. receive-answered t c m i) (λ m ready z. (ready-receive t c m ready i, unchanged-receive t c m ready i))
   shows (status i) = unchanged-row (status i) [] (λ t c. statusIn t c i) (λ m. status-answered t c m i) (λ m ready z. (ready-status t c m ready i, unchanged-status t c m ready i))
   shows (marks i) = unchanged-row (marks i) [] (λ t c. marksIn c i) (λ m. marks-answered t c m i) (λ m ready z. (ready-marks t c m ready i, unchanged-marks t c m ready i))
-  shows (clearMarks i) = unchanged-row (clearMarks i) [] (λ t c. clearMarksIn c i) (λ m. clear-marks-answered t c m i) (λ m ready z. (ready-clear-marks t c m ready i, unchanged-clear t c m ready i))
-  shows startPeriodic = unchanged-row startPeriodic [] (periodicIn true) (λ m. periodic-answered startPeriodic true m) (λ m ready z. (ready-periodic t c m ready true, unchanged-periodic t c m ready true))
-  shows stopPeriodic = unchanged-row stopPeriodic [] (periodicIn false) (λ m. periodic-answered stopPeriodic false m) (λ m ready z. (ready-periodic t c m ready false, unchanged-periodic t c m ready false))
+  shows (clearMarks i) =
+      unchanged-row (clearMarks i) [] (λ t c. clearMarksIn c i) (λ m. clear-marks-answered t c m i)
+      (λ m ready z. (ready-clear-marks t c m ready i, unchanged-clear t c m ready i))
+  shows startPeriodic =
+      unchanged-row startPeriodic [] (periodicIn true) (λ m. periodic-answered startPeriodic true m)
+      (λ m ready z. (ready-periodic t c m ready true, unchanged-periodic t c m ready true))
+  shows stopPeriodic =
+      unchanged-row stopPeriodic [] (periodicIn false) (λ m. periodic-answered stopPeriodic false m)
+      (λ m ready z. (ready-periodic t c m ready false, unchanged-periodic t c m ready false))
   shows (indication k good bytes) =
       unchanged-row (indication k good bytes) bytes (λ t c. indicationIn t c k good bytes) (λ m. indication-answered t c m k good bytes)
       (λ m ready z. (ready-indication t c m ready k good bytes z, unchanged-indication t c m ready k good bytes z))
-  shows (confirm k good) = unchanged-row (confirm k good) [] (λ t c. confirmIn t c k good) (λ m. confirm-answered t c m k good) (λ m ready z. (ready-confirm t c m ready k good, unchanged-confirm t c m ready k good))
+  shows (confirm k good) =
+      unchanged-row (confirm k good) [] (λ t c. confirmIn t c k good) (λ m. confirm-answered t c m k good)
+      (λ m ready z. (ready-confirm t c m ready k good, unchanged-confirm t c m ready k good))
   shows (tick area) =
       record {
         answered = λ m. unfold tickIn in did (tick area) m area _ _ _;

@@ -24,8 +24,7 @@ use Rattle.calls.proofs.Records.{sends-one}
 use Rattle.calls.proofs.Ticks.{tick-word, word-more}
 use Rattle.calls.proofs.ReadyKept.{ready-due, ready-ticks}
 use Rattle.trace.specs.Demand3.{names}
-use Rattle.trace.proofs.Refines.{Same, same-refl, same-trans, same-ipdu}
-use Rattle.trace.proofs.BookUnchanged.{unchanged-pick, unchanged-mark}
+use Rattle.trace.proofs.BookUnchanged.{BookUnchanged, unchanged-refl, unchanged-then, unchanged-ipdu, unchanged-pick, unchanged-mark}
 use Rattle.trace.proofs.FramesInArea.{FramesInArea, in-area-none, in-area-same, Tried, quiet, tried-cases, tried-from, in-area-more}
 
 module _ (t : List ℕ) (c : Counts) where
@@ -33,18 +32,18 @@ module _ (t : List ℕ) (c : Counts) where
 
   -- what one I-PDU's tick does: nothing that the book sees, and perhaps a request
   record Turn (k : ℕ) (area m : List ℕ) (o : Outcome) : Type 0 where
-    unseen : Same t c m (o .memory)
+    unseen : BookUnchanged t c m (o .memory)
     offer : Tried t c k area m o
 
   module _ (k : ℕ) (h : k < c .ipdus) (area m : List ℕ) (ready : Ready t c m) where
     -- marks on its objects, where a time has run out, and its row
-    due : (b : Bool) (mark : ℕ) → mark ≤ 15 → Same t c m (pick b (markObjects t c k mark m) m)
+    due : (b : Bool) (mark : ℕ) → mark ≤ 15 → BookUnchanged t c m (pick b (markObjects t c k mark m) m)
     due b mark few = unchanged-pick t c b m (markObjects t c k mark m) (λ e. unchanged-mark t c k mark few m ready)
 
-    due-row : (b : Bool) (mark : ℕ) → mark ≤ 15 → (s : IpduState) → Same t c m (withIpduState (pick b (markObjects t c k mark m) m) k s)
+    due-row : (b : Bool) (mark : ℕ) → mark ≤ 15 → (s : IpduState) → BookUnchanged t c m (withIpduState (pick b (markObjects t c k mark m) m) k s)
     due-row b mark few s =
         let n = pick b (markObjects t c k mark m) m in
-        same-trans t c m n (withIpduState n k s) (due b mark few) (same-ipdu t c n (ready-due t c b k mark few m ready) k h s)
+        unchanged-then t c m n (withIpduState n k s) (due b mark few) (unchanged-ipdu t c n (ready-due t c b k mark few m ready) k h s)
 
     turn-as : (d : Direction) → ipdu t k .direction ≡ d → Turn k area m (tickAs d t c k area m)
     turn-as Send d =
@@ -72,7 +71,7 @@ module _ (t : List ℕ) (c : Counts) where
 
   module _ (area m : List ℕ) (ready : Ready t c m) (fits : areaSize ≤ length area) where
     record Turned (n : ℕ) (a : TickResult) : Type 0 where
-      unseen : Same t c m (a .memory)
+      unseen : BookUnchanged t c m (a .memory)
       low : a .word < 2 ^ n
       long : areaSize ≤ length (a .area)
       below : (k : ℕ) → names (a .word) k → k < n
@@ -85,7 +84,7 @@ module _ (t : List ℕ) (c : Counts) where
         in-area-more t c (ready .right) n (a .word) h (a .area) m (x .long) (ready .long) (x .low) (x .below) (x .hands) (tickIpdu t c n (a .area) (a .memory))
         (tried-from t c (ready .right) n h (a .area) (a .memory) m (tickIpdu t c n (a .area) (a .memory)) (x .unseen .slot n h) (y .offer)) in
         record {
-          unseen = same-trans t c m (a .memory) (tickIpdu t c n (a .area) (a .memory) .memory) (x .unseen) (y .unseen);
+          unseen = unchanged-then t c m (a .memory) (tickIpdu t c n (a .area) (a .memory) .memory) (x .unseen) (y .unseen);
           low =
               subst (λ (j : ℕ). a .word + valueOf (tickIpdu t c n (a .area) (a .memory) .answer) < 2 ^ j) next
               (word-more n (a .word) (valueOf (tickIpdu t c n (a .area) (a .memory) .answer)) (x .low) (tick-word t c n (a .area) (a .memory)));
@@ -100,7 +99,7 @@ module _ (t : List ℕ) (c : Counts) where
     turned : (n : ℕ) → n ≤ c .ipdus → Turned n (ticks t c n area m)
     turned zero h =
         record {
-          unseen = same-refl t c m;
+          unseen = unchanged-refl t c m;
           low = omega arith;
           long = fits;
           below = λ k e. absurd (in-area-none k e);
@@ -108,7 +107,7 @@ module _ (t : List ℕ) (c : Counts) where
         }
     turned (suc n) h = turned-next n h (ticks t c n area m) (ready-ticks t c n (omega (arith, h)) area m ready) (turned n (omega (arith, h)))
 
-    pub unchanged-tick : Same t c m (tickIn t c area m .memory)
+    pub unchanged-tick : BookUnchanged t c m (tickIn t c area m .memory)
     unfolding tickIn
     unchanged-tick = turned (c .ipdus) (omega arith) .unseen
 
