@@ -11,7 +11,7 @@ use lib.Dec.{eqb}
 use lib.ListN.{length}
 use Rattle.memory.specs.Bytes.{part}
 use Rattle.memory.specs.Search.{pick, anyBelow}
-use Rattle.memory.proofs.Parts.{part-apart, part-length}
+use Rattle.memory.proofs.Parts.{part-length}
 use Rattle.memory.proofs.Search.{Found, found, nowhere, there, any-some, least-at}
 use Rattle.memory.proofs.Tests.{true-or-false, true-not-false, lt-or-le}
 use Rattle.bits.specs.Bits.{frameBit, place, owns, packed}
@@ -29,9 +29,9 @@ use Rattle.state.specs.declared.ObjectState.{ObjectState}
 use Rattle.state.specs.Layout.{memorySize, runningAt, withRunning, slotAt, objectState}
 use Rattle.state.specs.Ranges.{Ready}
 use Rattle.state.proofs.Running.{running-stored, running-part, running-row, ready-running}
-use Rattle.message.specs.Objects.{object, Placed, startBit, pack}
-use Rattle.message.proofs.ObjectsInRange.{right-placed, pack-room, packed-slot-length}
-use Rattle.calls.proofs.SlotRows.{pack-holds}
+use Rattle.message.specs.Objects.{object, Placed, pack}
+use Rattle.message.proofs.ObjectsInRange.{right-placed}
+use Rattle.calls.proofs.SlotRows.{pack-apart, pack-holds}
 use Rattle.calls.proofs.SendParts.{start-bit, size-some, low-ipdu}
 use Rattle.trace.specs.Book.{Entry, Book, enter, lastOf, messageBit, bookBit}
 use Rattle.trace.proofs.BookUnchanged.{BookUnchanged}
@@ -62,17 +62,9 @@ packed-bit r v f fits p low = cases (found (r .size) test)
 
 -- packing leaves the slots of other I-PDUs
 pack-other : (o : Object) (v : ℕ) (m : List ℕ) → Placed o m → (k : ℕ) → (k ≡ o .ipdu .0 → ⊥) → part (slotAt k) 8 (pack o v m) ≡ part (slotAt k) 8 m
-unfolding pack
 pack-other o v m placed k ne =
-    ⊎-elim
-    (λ (e : eqb (o .ipdu .0) absent ≡ true). rw e)
-    (λ (e : eqb (o .ipdu .0) absent ≡ false).
-    let size = packed-slot-length o v m placed e in
-    rw e
-    (part-apart (slotAt (o .ipdu .0)) (packed (o .order) (startBit o) (o .size .0) v (part (slotAt (o .ipdu .0)) 8 m)) m (slotAt k) 8
-    (omega (arith, size, pack-room o v m placed e))
-    (⊎-elim (λ (l : k < o .ipdu .0). inl (omega (arith, l))) (λ (g : o .ipdu .0 ≤ k). inr (omega (arith, g, ne, size))) (lt-or-le k (o .ipdu .0)))))
-    (true-or-false (eqb (o .ipdu .0) absent))
+    pack-apart o v m placed (slotAt k) 8
+    (λ e. ⊎-elim (λ (l : k < o .ipdu .0). inl (omega (arith, l))) (λ (g : o .ipdu .0 ≤ k). inr (omega (arith, g, ne))) (lt-or-le k (o .ipdu .0)))
 
 -- ---- refinement
 
