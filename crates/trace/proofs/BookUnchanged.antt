@@ -3,9 +3,9 @@
 -- Assumes nothing.
 use mathlib.Core.Bool.{Bool, true, false, _&&_, _||_}
 use mathlib.Core.List.{List}
-use mathlib.Core.Logic.{_⊎_, ⊎-elim, inl, inr}
+use mathlib.Core.Logic.{_⊎_, inl, inr, ⊎-elim}
 use mathlib.Core.Path.{_≡_, refl, ap, _∙_}
-use Prim.Native.Nat.{ℕ, zero, suc, _^_, _≤_, _<_, _+_}
+use Prim.Native.Nat.{ℕ, zero, suc, _+_, _^_, _≤_, _<_}
 use native.Mathlib.Omega.{arith}
 use borrow.Author.Tests.{eqb-true, ne-eqb}
 use lib.Dec.{eqb}
@@ -23,12 +23,12 @@ use Rattle.table.specs.Check.{depths}
 use Rattle.table.specs.Decode.{objectOf, Right}
 use Rattle.table.proofs.Accepted.{usable}
 use Rattle.table.proofs.Facts.{object-facts}
+use Rattle.state.specs.declared.IpduState.{IpduState}
 use Rattle.state.specs.declared.ObjectState.{ObjectState}
 use Rattle.state.specs.Layout.{objectState, withObjectState, ipduState, withIpduState, rowSize, queues, runningAt, slotAt, ipduRow, objectRow}
 use Rattle.state.specs.Ranges.{Ready}
-use Rattle.state.proofs.Ready.{ready-kept, ObjectKept, kept-fits, object-row, ipdu-row}
-use Rattle.state.specs.declared.IpduState.{IpduState}
 use Rattle.state.proofs.RowLaws.{ipdu-part, ipdu-keeps-objects, object-part, object-stored, object-other, object-read}
+use Rattle.state.proofs.Ready.{ready-kept, ObjectKept, kept-fits, object-row, ipdu-row}
 use Rattle.message.specs.Objects.{object, passesFilter, placeAt, enters, marked, delivered, deliver, unpack}
 use Rattle.message.specs.Delivery.{insideTurn, deliverInside, frameTurn, deliverFrame, markTurn, markObjects}
 use Rattle.message.proofs.RingPlaces.{queue-room}

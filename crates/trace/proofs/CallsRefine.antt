@@ -87,7 +87,7 @@ module _ (t : List ℕ) (c : Counts) where
     as-found : BookUnchanged t c m m
     as-found = unchanged-refl t c m
 
-    -- a value taken from a queue of a receive object
+    -- a queue that a value is taken from is a receive object's
     pub unchanged-receive : (i : ℕ) → BookUnchanged t c m (receiveIn t c i m .memory)
     unfolding receiveIn dequeue
     unchanged-receive i =
