@@ -7,6 +7,7 @@ use mathlib.Core.Path.{_≡_, refl, ap, _∙_}
 use Prim.Native.Nat.{ℕ, zero, suc, _+_, _^_, _≤_, _<_, max}
 use native.Mathlib.Nat.{not-suc-le-zero}
 use native.Mathlib.Omega.{arith}
+use borrow.Author.Needs.{needs}
 use lib.Dec.{eqb}
 use lib.ListN.{length, getD, replicate, length-replicate, getD-replicate, List·getD-eq-default}
 use Rattle.memory.specs.Bytes.{Bytes, value, numberAt, part}
@@ -44,72 +45,21 @@ timer-low false first next = omega arith
 
 module _ (p : Ipdu) where
   idle-range : (d : Direction) → p .direction ≡ d → ipduInRange p (idle (firstTimer d p)) ≡ true
-  idle-range Send e =
-      kept-send p (idle 0) e
-      (record {
-        requested = omega arith;
-        wanted = omega arith;
-        running = omega arith;
-        periodic = omega arith;
-        delay = omega arith;
-        deadline = omega arith;
-        countdown = omega arith;
-        timer = refl;
-      })
-  idle-range Receive e =
-      kept-receive p (idle (firstTimer Receive p)) e
-      (record {
-        requested = refl;
-        wanted = refl;
-        running = refl;
-        delay = refl;
-        deadline = refl;
-        countdown = refl;
-        timer = timer-low (eqb (p .«first_deadline») 0) (p .«first_deadline») (p .deadline);
-      })
+  idle-range Send e = kept-send p (idle 0) e (search needs)
+  idle-range Receive e = kept-receive p (idle (firstTimer Receive p)) e (search (needs, timer-low))
 
   timer-fits : Times p → (d : Direction) → firstTimer d p < 2 ^ 16
   timer-fits f Send = omega arith
   timer-fits f Receive = omega (arith, timer-low (eqb (p .«first_deadline») 0) (p .«first_deadline») (p .deadline), f .first, f .deadline)
 
 idle-fits : (n : ℕ) → n < 2 ^ 16 → IpduFits (idle n)
-idle-fits n h =
-    record {
-      requested = omega arith;
-      wanted = omega arith;
-      running = omega arith;
-      delay = omega arith;
-      deadline = omega arith;
-      countdown = omega arith;
-      timer = h;
-    }
+idle-fits n h = search needs
 
 pub unused-fits : (value old queue : ℕ) → value < 2 ^ 32 → old < 2 ^ 32 → queue ≤ mostQueued → ObjectFits (unused value old queue)
-unused-fits value old queue a b d =
-    record {
-      value = a;
-      old = b;
-      occurrence = omega arith;
-      marks = omega arith;
-      overflow = omega arith;
-      head = omega arith;
-      count = omega arith;
-      queue = omega (arith, d);
-    }
+unused-fits value old queue a b d = search needs
 
 unused-range : (depth value old queue : ℕ) → value < 2 ^ 32 → old < 2 ^ 32 → objectInRange depth queue (unused value old queue) ≡ true
-unused-range depth value old queue a b =
-    kept-object depth queue (unused value old queue)
-    (record {
-      value = a;
-      old = b;
-      occurrence = omega arith;
-      marks = omega arith;
-      overflow = omega arith;
-      count = omega arith;
-      head = omega arith;
-      queue = refl;
-    })
+unused-range depth value old queue a b = kept-object depth queue (unused value old queue) (search needs)
 
 -- ---- zeros
 
