@@ -1,3 +1,6 @@
 pub mod Records
 pub mod Outcomes
 pub mod Ticks
+pub mod SlotRows
+pub mod SendParts
+pub mod ReadyKept

@@ -9,7 +9,7 @@ use native.Mathlib.Omega.{arith}
 use borrow.Author.Tests.{leb-true, not-true, not-false}
 use lib.Dec.{leb, eqb}
 use lib.ListN.{length, drop, take-append-drop}
-use lib.Seq.{length-take-le}
+use lib.Seq.{length-take-le, take-append-seam}
 use Rattle.memory.specs.Bytes.{Bytes, part}
 use Rattle.memory.proofs.Parts.{part-bytes}
 use Rattle.memory.proofs.Tests.{and-split, true-or-false}
@@ -121,6 +121,9 @@ module _ {t m : List ℕ} {n l : ℕ} {a : Admission} where
   admitted-area {c} h e = leb-true n l (h .opens c e .area)
 
 -- ---- the first 8,192 bytes, and the rest
+
+pub front-of : (x m : List ℕ) → length x ≡ memorySize → workingMemory (x ++ drop memorySize m) ≡ x
+front-of x m e = rw e at (take-append-seam x (drop memorySize m))
 
 pub on-working-memory : (call : List ℕ → Outcome) (m : List ℕ) (a : Answer) (n area : List ℕ) → outcome a n area ≡ call (workingMemory m)
     → outcome a (n ++ drop memorySize m) area ≡ onWorkingMemory call m

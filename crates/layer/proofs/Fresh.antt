@@ -1,4 +1,4 @@
--- What a start writes, step by step: 8,192 bytes, whatever was there. The first laws ask for plain values, so that a search finds them.
+-- What a start writes, step by step, whatever was there. The laws ask for plain values, so that a search finds them.
 -- Assumes nothing.
 use mathlib.Core.List.{List, [], _++_}
 use mathlib.Core.Path.{_≡_, sym, _∙_}
@@ -6,12 +6,11 @@ use Prim.Native.Nat.{ℕ, _+_, _^_, _≤_, _<_}
 use native.Mathlib.Numerals.{unary-clauses}
 use native.Mathlib.Omega.{arith}
 use borrow.Author.Tests.{le-leb}
-use lib.ListN.{length, drop, replicate, length-replicate}
+use lib.ListN.{length, drop, replicate}
 use Rattle.memory.specs.Bytes.{bytesOf, replaced}
 use Rattle.memory.specs.Search.{fold}
-use Rattle.memory.proofs.Search.{fold-keeps, turn-more}
+use Rattle.memory.proofs.Search.{turn-more}
 use Rattle.table.specs.declared.Counts.{Counts}
-use Rattle.table.specs.declared.Direction.{Direction}
 use Rattle.table.specs.declared.Direction.the-variants.{Send, Receive}
 use Rattle.table.specs.declared.Ipdu.{Ipdu}
 use Rattle.table.specs.declared.Object.{Object}
@@ -22,12 +21,10 @@ use Rattle.table.specs.Check.{check, depths}
 use Rattle.table.proofs.Accepted.{accepted-right}
 use Rattle.state.specs.declared.IpduState.{IpduState}
 use Rattle.state.specs.declared.ObjectState.{ObjectState}
-use Rattle.state.specs.Layout.{rowSize, memorySize, withRunning, withIpduState, objectRow, withObjectState}
-use Rattle.state.proofs.RowLaws.{ipdu-length, object-length}
-use Rattle.state.proofs.Running.{running-length}
+use Rattle.state.specs.Layout.{memorySize, withRunning, withIpduState, withObjectState}
 use Rattle.state.proofs.Turns.{depth-sum}
 use Rattle.message.specs.Objects.{object, pack, Placed}
-use Rattle.message.proofs.ObjectsInRange.{right-placed, pack-length}
+use Rattle.message.proofs.ObjectsInRange.{right-placed}
 use Rattle.transmission.specs.Requests.{ipdu}
 use Rattle.calls.specs.declared.Answer.the-variants.{Done}
 use Rattle.calls.specs.Answers.{Outcome, outcome}
@@ -84,38 +81,3 @@ module _ (t : List ℕ) (c : Counts) (i first : ℕ) (o : Object) (same : o ≡ 
 
     pub objects-more : (m₀ m n : List ℕ) → m ≡ fold i (startObject t c) m₀ → n ≡ startAs (o .direction) o i first m → n ≡ fold (i + 1) (startObject t c) m₀
     objects-more m₀ m n before starts = turn-more (startObject t c) i m m₀ before n (rw (starts, so-far, same))
-
--- ---- what a start writes is 8,192 bytes long
-
-module _ (o : Object) (i first : ℕ) (m : List ℕ) (placed : Placed o m) (room : objectRow i + rowSize ≤ length m) where
-  start-as-length : (d : Direction) → length (startAs d o i first m) ≡ length m
-  start-as-length Send =
-      let same = object-length m i (unused 0 (o .initial) first) room in
-      pack-length o (o .initial) (withObjectState m i (unused 0 (o .initial) first))
-      (record { long = omega (arith, same, placed .long); slot = placed .slot; ipdu = placed .ipdu })
-      ∙ same
-  start-as-length Receive = object-length m i (unused (o .initial) (o .initial) first) room
-
-module _ (t : List ℕ) (c : Counts) (right : Right t c) where
-  start-ipdu-length : (k : ℕ) → k < c .ipdus → (m : List ℕ) → length m ≡ memorySize → length (startIpdu t k m) ≡ memorySize
-  start-ipdu-length k h m e =
-      ipdu-length m k (idle (firstTimer (ipdu t k .direction) (ipdu t k))) (omega (arith, e, h, right .shape .ipdus)) ∙ e
-
-  start-object-length : (i : ℕ) → i < c .objects → (m : List ℕ) → length m ≡ memorySize → length (startObject t c i m) ≡ memorySize
-  start-object-length i h m e =
-      start-as-length (object t c i) i (depths t c i) m
-      (right-placed t c m right (omega (arith, e)) i h)
-      (omega (arith, e, h, right .shape .objects)) (object t c i .direction)
-      ∙ e
-
-  prepared-length : length (prepared t c) ≡ memorySize
-  unfolding prepared blank
-  prepared-length =
-      fold-keeps (λ (m : List ℕ). length m ≡ memorySize) (c .objects) (startObject t c) start-object-length
-      (fold (c .ipdus) (startIpdu t) (replicate memorySize 0))
-      (fold-keeps (λ (m : List ℕ). length m ≡ memorySize) (c .ipdus) (startIpdu t) start-ipdu-length
-      (replicate memorySize 0) (length-replicate {A = ℕ} memorySize 0))
-
-  pub started-length : length (started t c) ≡ memorySize
-  unfolding started
-  started-length = running-length (prepared t c) 1 prepared-length

@@ -2,7 +2,7 @@
 -- Assumes: the table holds bytes, and arguments are of the types that the calls take (`Typed`).
 use mathlib.Core.Bool.{true, false}
 use mathlib.Core.List.{List, _++_}
-use mathlib.Core.Logic.{inl, inr}
+use mathlib.Core.Logic.{inr}
 use mathlib.Core.Path.{_≡_, refl, sym, ap, _∙_}
 use Prim.Native.Nat.{ℕ, _+_, _^_, _≤_, _<_}
 use native.Mathlib.Omega.{arith}
@@ -23,22 +23,22 @@ use Rattle.table.proofs.Accepted.{usable}
 use Rattle.state.specs.Layout.{areaSize, slotAt, ipduState, objectState}
 use Rattle.state.specs.Ranges.{Ready}
 use Rattle.state.proofs.RowLaws.{ipdu-part}
-use Rattle.state.proofs.Ready.{ready-bytes}
 use Rattle.message.specs.Objects.{object, passesFilter, unpack, pack}
 use Rattle.message.specs.Delivery.{deliverInside, deliverFrame}
-use Rattle.message.proofs.ObjectsInRange.{ready-pack, ready-frame, ready-placed, unpack-lt}
+use Rattle.message.proofs.ObjectsInRange.{ready-pack, ready-placed, unpack-lt}
 use Rattle.message.proofs.Apart.{inside-row, frame-row}
 use Rattle.message.proofs.Deliveries.{inside-waiting, frame-waiting}
 use Rattle.transmission.specs.Requests.{ipdu, timerSet}
 use Rattle.calls.specs.Answers.{Outcome}
 use Rattle.calls.specs.Calls.{isObject, request, sendIn, timed, indicationIn}
 use Rattle.calls.proofs.Records.{object-kind, ipdu-short}
+use Rattle.calls.proofs.SlotRows.{pack-behind, request-behind}
+use Rattle.calls.proofs.SendParts.{start-bit, here, inner, judge, after, inner-ready, after-ready, sent-as}
+use Rattle.calls.proofs.ReadyKept.{ready-copied, ready-delivered}
 use Rattle.layer.specs.Admission.{workingMemory}
 use Rattle.layer.specs.Step.{Call, send, indication, toldSend, step}
 use Rattle.trace.specs.Book.{Book, sends, accepts, afterSend, advance}
 use Rattle.trace.specs.RoundTrip.{readingIn, Runs, memoryOf, Takes, Arrived}
-use Rattle.trace.proofs.SlotRows.{pack-behind, request-behind}
-use Rattle.trace.proofs.SendParts.{start-bit, here, inner, judge, after, inner-ready, after-ready, sent-as}
 use Rattle.trace.proofs.Receivers.{ready, Still, Reached, runs-live, still-twice, still-behind, still-other, reached-still, reached, arrives}
 
 -- ---- indication
@@ -71,8 +71,7 @@ module _ (t : List ℕ) (c : Counts) (m : List ℕ) (ready : Ready t c m) (j : �
   slot-room = omega (arith, below, few, ready .long)
 
   copied-ready : Ready t c (replaced (slotAt (objectRecord t (c .ipdus) j .ipdu)) f m)
-  copied-ready =
-      ready-bytes t c m ready (slotAt (objectRecord t (c .ipdus) j .ipdu)) f bytes slot-room (inl (omega arith, omega (arith, below, few)))
+  copied-ready = ready-copied t c m ready (objectRecord t (c .ipdus) j .ipdu) in-table f bytes long
 
   copied-still : Still t c j low m (replaced (slotAt (objectRecord t (c .ipdus) j .ipdu)) f m)
   copied-still =
@@ -91,8 +90,7 @@ module _ (t : List ℕ) (c : Counts) (m : List ℕ) (ready : Ready t c m) (j : �
   delivery = deliverFrame t c (objectRecord t (c .ipdus) j .ipdu) copied
 
   delivery-ready : Ready t c (deliverFrame t c (objectRecord t (c .ipdus) j .ipdu) copied)
-  unfolding deliverFrame
-  delivery-ready = ready-frame t c (objectRecord t (c .ipdus) j .ipdu) (c .objects) (omega arith) copied copied-ready
+  delivery-ready = ready-delivered t c m ready (objectRecord t (c .ipdus) j .ipdu) in-table f bytes long
 
   -- the timer changes no object
   timed-still : Still t c j low delivery (timed t (objectRecord t (c .ipdus) j .ipdu) delivery)

@@ -1,43 +1,153 @@
--- What the book of demand 3 does not see: internal delivery, delivery of a frame, marks, periods, and the rows of I-PDUs.
+-- What the book of demand 3 does not see: internal delivery, delivery of a frame, marks, periods, and the rows of I-PDUs. These change
+-- no old value or count of a send object, no slot of a send I-PDU, and not whether the layer runs.
 -- Assumes nothing.
 use mathlib.Core.Bool.{Bool, true, false, _&&_, _||_}
 use mathlib.Core.List.{List}
-use mathlib.Core.Logic.{_⊎_, ⊎-elim}
+use mathlib.Core.Logic.{_⊎_, inl, inr, ⊎-elim}
 use mathlib.Core.Path.{_≡_, refl, ap, _∙_}
-use Prim.Native.Nat.{ℕ, _-_, _^_, _≤_, _<_}
+use Prim.Native.Nat.{ℕ, zero, suc, _+_, _^_, _≤_, _<_}
 use native.Mathlib.Omega.{arith}
 use borrow.Author.Tests.{eqb-true, ne-eqb}
 use lib.Dec.{eqb}
-use Rattle.memory.specs.Bytes.{bytesOf, replaced}
+use lib.ListN.{length}
+use Rattle.memory.specs.Bytes.{bytesOf, replaced, value, part, numberAt}
 use Rattle.memory.specs.Search.{pick, fold}
-use Rattle.memory.proofs.Parts.{bytesOf-length}
-use Rattle.memory.proofs.Search.{picked, fold-keeps}
-use Rattle.memory.proofs.Tests.{and-split, or-cases}
+use Rattle.memory.proofs.Parts.{bytesOf-length, part-apart}
+use Rattle.memory.proofs.Search.{picked}
+use Rattle.memory.proofs.Tests.{and-split, or-cases, eq-or-ne, lt-or-le}
 use Rattle.table.specs.declared.Counts.{Counts}
 use Rattle.table.specs.declared.ObjectRecord.{ObjectRecord}
-use Rattle.table.specs.Records.{receiving, sending, absent, ipduRecord, objectRecord}
+use Rattle.table.specs.Records.{receiving, sending, absent, ipduRecord, objectRecord, mostIpdus}
 use Rattle.table.specs.Rules.{references, sendObject, receiveObject}
 use Rattle.table.specs.Check.{depths}
 use Rattle.table.specs.Decode.{objectOf, Right}
 use Rattle.table.proofs.Accepted.{usable}
 use Rattle.table.proofs.Facts.{object-facts}
-use Rattle.table.specs.declared.Direction.the-variants.{Send}
 use Rattle.state.specs.declared.IpduState.{IpduState}
 use Rattle.state.specs.declared.ObjectState.{ObjectState}
-use Rattle.state.specs.Layout.{objectState, withObjectState, ipduState, withIpduState}
+use Rattle.state.specs.Layout.{objectState, withObjectState, ipduState, withIpduState, rowSize, queues, runningAt, slotAt, ipduRow, objectRow}
 use Rattle.state.specs.Ranges.{Ready}
-use Rattle.state.proofs.Ready.{ObjectKept, ready-kept, ready-object}
+use Rattle.state.proofs.RowLaws.{ipdu-part, ipdu-keeps-objects, object-part, object-stored, object-other, object-read}
+use Rattle.state.proofs.Ready.{ready-kept, ObjectKept, kept-fits, object-row, ipdu-row}
 use Rattle.message.specs.Objects.{object, passesFilter, placeAt, enters, marked, delivered, deliver, unpack}
 use Rattle.message.specs.Delivery.{insideTurn, deliverInside, frameTurn, deliverFrame, markTurn, markObjects}
 use Rattle.message.proofs.RingPlaces.{queue-room}
-use Rattle.message.proofs.ObjectsInRange.{kept-marked, kept-delivered, ready-held, ready-deliver, ready-queued, unpack-lt}
-use Rattle.state.specs.Updates.{withWanted}
-use Rattle.transmission.specs.Requests.{ipdu, afterRequest, hasPeriod, periodSet, periodTurn, setPeriods}
-use Rattle.transmission.proofs.RequestsInRange.{SendKept, kept-wanted, kept-offered, ready-send, ready-send-kept, ready-period-turn}
+use Rattle.message.proofs.ObjectsInRange.{kept-marked, ready-held, ready-queued, ready-inside, ready-frame, ready-mark}
+use Rattle.transmission.specs.Requests.{ipdu, hasPeriod, periodSet, periodTurn, setPeriods}
+use Rattle.transmission.proofs.RequestsInRange.{ready-periods}
 use Rattle.calls.specs.Answers.{Outcome}
 use Rattle.calls.specs.Calls.{isObject, wants, request}
-use Rattle.calls.proofs.Records.{object-there, object-kind, ipdu-sends, wants-some}
-use Rattle.trace.proofs.Refines.{Same, same-refl, same-trans, same-object, same-ipdu, same-queue}
+use Rattle.calls.proofs.Records.{object-there, wants-some}
+use Rattle.calls.proofs.SendParts.{low-ipdu}
+
+-- ---- what the book speaks of
+
+module _ (t : List ℕ) (c : Counts) where
+  -- two memories that the book cannot tell apart
+  pub record BookUnchanged (m n : List ℕ) : Type 0 where
+    pub running : runningAt n ≡ runningAt m
+    pub old : (i : ℕ) → i < c .objects → objectRecord t (c .ipdus) i .kind ≡ sending → objectState n i .old ≡ objectState m i .old
+    pub count : (i : ℕ) → i < c .objects → objectRecord t (c .ipdus) i .kind ≡ sending → objectState n i .occurrence ≡ objectState m i .occurrence
+    pub slot : (k : ℕ) → k < c .ipdus → ipduRecord t k .direction ≡ sending → part (slotAt k) 8 n ≡ part (slotAt k) 8 m
+
+  pub unchanged-refl : (m : List ℕ) → BookUnchanged m m
+  unchanged-refl m = record { running = refl; old = λ i h k. refl; count = λ i h k. refl; slot = λ k h d. refl }
+
+  pub unchanged-then : (l m n : List ℕ) → BookUnchanged l m → BookUnchanged m n → BookUnchanged l n
+  unchanged-then l m n a b =
+      record {
+        running = b .running ∙ a .running;
+        old = λ i h k. b .old i h k ∙ a .old i h k;
+        count = λ i h k. b .count i h k ∙ a .count i h k;
+        slot = λ k h d. b .slot k h d ∙ a .slot k h d;
+      }
+
+  -- an object's row, where a send object keeps old and count
+  pub unchanged-object : (m : List ℕ) → Ready t c m → (j : ℕ) → j < c .objects → (s : ObjectState)
+      → (objectRecord t (c .ipdus) j .kind ≡ sending
+      → ObjectKept (objectRecord t (c .ipdus) j .depth) (Rattle.table.specs.Check.depths t c j) s
+      × (s .old ≡ objectState m j .old)
+      × (s .occurrence ≡ objectState m j .occurrence))
+      → BookUnchanged m (withObjectState m j s)
+  unfolding runningAt numberAt
+  unchanged-object m ready j h s keeps =
+      record {
+        running = ap value (object-part m j s room 0 1 (inl (omega arith)));
+        old = λ i b k.
+            ⊎-elim
+            (λ (e : i ≡ j). rw (e, stored (rw e at k)) (keeps (rw e at k) .1))
+            (λ (ne : i ≡ j → ⊥). ap (λ (x : ObjectState). x .old) (object-other m j s room i ne))
+            (eq-or-ne i j);
+        count = λ i b k.
+            ⊎-elim
+            (λ (e : i ≡ j). rw (e, stored (rw e at k)) (keeps (rw e at k) .2))
+            (λ (ne : i ≡ j → ⊥). ap (λ (x : ObjectState). x .occurrence) (object-other m j s room i ne))
+            (eq-or-ne i j);
+        slot = λ k b d. object-part m j s room (slotAt k) 8 (inl (omega (arith, b, ready .right .shape .ipdus)));
+      }
+    where
+      room : objectRow j + rowSize ≤ length m
+      room = object-row t c m ready j h
+
+      stored : objectRecord t (c .ipdus) j .kind ≡ sending → objectState (withObjectState m j s) j ≡ s
+      stored one = object-stored m j s room (kept-fits t c m ready j h s (keeps one .0))
+
+  -- an I-PDU's row
+  pub unchanged-ipdu : (m : List ℕ) → Ready t c m → (k : ℕ) → k < c .ipdus → (s : IpduState) → BookUnchanged m (withIpduState m k s)
+  unfolding runningAt numberAt
+  unchanged-ipdu m ready k h s =
+      record {
+        running = ap value (ipdu-part m k s room 0 1 (inl (omega arith)));
+        old = λ i b e. ap (λ (x : ObjectState). x .old) (ipdu-keeps-objects m k s room low i);
+        count = λ i b e. ap (λ (x : ObjectState). x .occurrence) (ipdu-keeps-objects m k s room low i);
+        slot = λ j b d. ipdu-part m k s room (slotAt j) 8 (inr (omega (arith, low)));
+      }
+    where
+      room : ipduRow k + rowSize ≤ length m
+      room = ipdu-row t c m ready k h
+
+      low : k < mostIpdus
+      low = omega (arith, h, ready .right .shape .ipdus)
+
+  -- bytes behind the rows, or in the slot of a receive I-PDU
+  pub unchanged-queue : (m : List ℕ) → Ready t c m → (at : ℕ) (f : List ℕ) → at + length f ≤ length m → queues ≤ at → BookUnchanged m (replaced at f m)
+  unfolding runningAt numberAt
+  unchanged-queue m ready at f room high =
+      record {
+        running = ap value (part-apart at f m 0 1 room (inl (omega (arith, high))));
+        old = λ i b k. ap (λ (x : ObjectState). x .old) (row i b);
+        count = λ i b k. ap (λ (x : ObjectState). x .occurrence) (row i b);
+        slot = λ k b d. part-apart at f m (slotAt k) 8 room (inl (omega (arith, high, b, ready .right .shape .ipdus)));
+      }
+    where
+      row : (i : ℕ) → i < c .objects → objectState (replaced at f m) i ≡ objectState m i
+      row i b =
+          object-read (replaced at f m) m i (λ o w e. part-apart at f m (objectRow i + o) w room (inl (omega (arith, e, b, high, ready .right .shape .objects))))
+
+  pub unchanged-slot : (m : List ℕ) → Ready t c m → (j : ℕ) → j < c .ipdus → (ipduRecord t j .direction ≡ sending → ⊥) → (f : List ℕ) → length f ≤ 8
+      → BookUnchanged m (replaced (slotAt j) f m)
+  unfolding runningAt numberAt
+  unchanged-slot m ready j h received f few =
+      record {
+        running = ap value (part-apart (slotAt j) f m 0 1 room (inl (omega arith)));
+        old = λ i b k. ap (λ (x : ObjectState). x .old) (row i);
+        count = λ i b k. ap (λ (x : ObjectState). x .occurrence) (row i);
+        slot = λ k b d.
+            ⊎-elim
+            (λ (e : k ≡ j). absurd (received (rw e at d)))
+            (λ (ne : k ≡ j → ⊥).
+            part-apart (slotAt j) f m (slotAt k) 8 room
+            (⊎-elim (λ (l : k < j). inl (omega (arith, l))) (λ (g : j ≤ k). inr (omega (arith, g, ne, few))) (lt-or-le k j)))
+            (eq-or-ne k j);
+      }
+    where
+      room : slotAt j + length f ≤ length m
+      room = omega (arith, few, h, ready .long, ready .right .shape .ipdus)
+
+      row : (i : ℕ) → objectState (replaced (slotAt j) f m) i ≡ objectState m i
+      row i =
+          object-read (replaced (slotAt j) f m) m i
+          (λ o w e. part-apart (slotAt j) f m (objectRow i + o) w room (inr (omega (arith, few, h, ready .right .shape .ipdus))))
 
 -- ---- a send object has no sending object, and an object that has one is received
 
@@ -73,43 +183,22 @@ module _ (t : List ℕ) (c : Counts) (right : Right t c) (i : ℕ) (h : i < c .o
       kinds
 
 module _ (t : List ℕ) (c : Counts) where
-  -- a memory in range that the book cannot tell from m
-  pub record BookUnchanged (m n : List ℕ) : Type 0 where
-    pub ready : Ready t c n
-    pub same : Same t c m n
-
-  pub unchanged-refl : (m : List ℕ) → Ready t c m → BookUnchanged m m
-  unchanged-refl m ready = record { ready = ready; same = same-refl t c m }
-
-  pub unchanged-then : (l m n : List ℕ) → BookUnchanged l m → BookUnchanged m n → BookUnchanged l n
-  unchanged-then l m n a b = record { ready = b .ready; same = same-trans t c l m n (a .same) (b .same) }
-
   -- turns that the book does not see
-  pub unchanged-fold : (n : ℕ) (turn : ℕ → List ℕ → List ℕ) → ((k : ℕ) → k < n → (l : List ℕ) → Ready t c l → BookUnchanged l (turn k l))
-      → (m : List ℕ) → Ready t c m → BookUnchanged m (fold n turn m)
-  unchanged-fold n turn each m ready =
-      fold-keeps (BookUnchanged m) n turn (λ k h l u. unchanged-then m l (turn k l) u (each k h l (u .ready))) m
-      (unchanged-refl m ready)
-
-  -- the row of an object that is not sent, or keeps old and count
-  pub unchanged-object : (j : ℕ) → j < c .objects → (s : ObjectState) (m : List ℕ) → Ready t c m
-      → ObjectKept (objectRecord t (c .ipdus) j .depth) (depths t c j) s
-      → (objectRecord t (c .ipdus) j .kind ≡ sending → s .old ≡ objectState m j .old)
-      → (objectRecord t (c .ipdus) j .kind ≡ sending → s .occurrence ≡ objectState m j .occurrence) → BookUnchanged m (withObjectState m j s)
-  unchanged-object j h s m ready kept old count =
-      record { ready = ready-object t c m ready j h s kept; same = same-object t c m ready j h s kept old count }
+  unchanged-fold : (n : ℕ) (turn : ℕ → List ℕ → List ℕ) (m : List ℕ) → ((k : ℕ) → k ≤ n → Ready t c (fold k turn m))
+      → ((k : ℕ) → k < n → (l : List ℕ) → Ready t c l → BookUnchanged t c l (turn k l)) → BookUnchanged t c m (fold n turn m)
+  unchanged-fold zero turn m ready each = unchanged-refl t c m
+  unchanged-fold (suc n) turn m ready each =
+      unchanged-then t c m (fold n turn m) (turn n (fold n turn m))
+      (unchanged-fold n turn m (λ k h. ready k (omega (arith, h))) (λ k h. each k (omega (arith, h))))
+      (each n (omega arith) (fold n turn m) (ready n (omega arith)))
 
   -- a delivery to an object that is not sent
-  unchanged-deliver : (i v : ℕ) → i < c .objects → (objectRecord t (c .ipdus) i .kind ≡ sending → ⊥) → v < 2 ^ 32 → (m : List ℕ) → Ready t c m
-      → BookUnchanged m (deliver (object t c i) i v m)
+  unchanged-deliver : (i v : ℕ) → i < c .objects → (objectRecord t (c .ipdus) i .kind ≡ sending → ⊥) → (m : List ℕ) → Ready t c m
+      → BookUnchanged t c m (deliver (object t c i) i v m)
   unfolding deliver objectOf
-  unchanged-deliver i v h received small m ready =
-      record {
-        ready = ready-deliver t c m ready i h v small;
-        same =
-            same-trans t c m (queued e) (withObjectState (queued e) i row) (queue-same e)
-            (same-object t c (queued e) (ready-queued t c m ready i h v e) i h row kept (λ k. absurd (received k)) (λ k. absurd (received k)));
-      }
+  unchanged-deliver i v h received m ready =
+      unchanged-then t c m (queued e) (withObjectState (queued e) i row) (queue-same e)
+      (unchanged-object t c (queued e) (ready-queued t c m ready i h v e) i h row (λ one. absurd (received one)))
     where
       e : Bool
       e = enters (passesFilter (object t c i) v (objectState m i)) (object t c i .depth) (objectState m i)
@@ -120,37 +209,34 @@ module _ (t : List ℕ) (c : Counts) where
       row : ObjectState
       row = delivered (passesFilter (object t c i) v (objectState m i)) (object t c i .depth) v (objectState m i)
 
-      kept : ObjectKept (objectRecord t (c .ipdus) i .depth) (depths t c i) (delivered (passesFilter (object t c i) v (objectState m i)) (object t c i .depth) v (objectState m i))
-      kept = kept-delivered (objectRecord t (c .ipdus) i .depth) (depths t c i) (passesFilter (object t c i) v (objectState m i)) v (objectState m i) small (ready-kept t c m ready i h)
-
-      queue-same : (b : Bool) → Same t c m (pick b (replaced (placeAt (object t c i .depth) (objectState m i) (objectState m i .count)) (bytesOf 4 v) m) m)
+      queue-same : (b : Bool) → BookUnchanged t c m (pick b (replaced (placeAt (object t c i .depth) (objectState m i) (objectState m i .count)) (bytesOf 4 v) m) m)
       queue-same true =
           let room = queue-room (object t c i .depth) i m (ready-held t c m ready i h) .room (objectState m i .count) (ready-kept t c m ready i h .count) in
-          same-queue t c m ready (placeAt (object t c i .depth) (objectState m i) (objectState m i .count)) (bytesOf 4 v) (omega (arith, room, bytesOf-length 4 v)) (omega arith)
-      queue-same false = same-refl t c m
+          unchanged-queue t c m ready (placeAt (object t c i .depth) (objectState m i) (objectState m i .count)) (bytesOf 4 v) (omega (arith, room, bytesOf-length 4 v)) (omega arith)
+      queue-same false = unchanged-refl t c m
 
-  pub unchanged-pick : (b : Bool) (m n : List ℕ) → Ready t c m → (b ≡ true → BookUnchanged m n) → BookUnchanged m (pick b n m)
-  unchanged-pick b m n ready u = picked (BookUnchanged m) b n m u (λ e. unchanged-refl m ready)
+  pub unchanged-pick : (b : Bool) (m n : List ℕ) → (b ≡ true → BookUnchanged t c m n) → BookUnchanged t c m (pick b n m)
+  unchanged-pick b m n u = picked (BookUnchanged t c m) b n m u (λ e. unchanged-refl t c m)
 
   -- internal delivery
-  pub unchanged-inside : (i v : ℕ) → i < c .objects → v < 2 ^ 32 → (m : List ℕ) → Ready t c m → BookUnchanged m (deliverInside t c i v m)
+  pub unchanged-inside : (i v : ℕ) → i < c .objects → v < 2 ^ 32 → (m : List ℕ) → Ready t c m → BookUnchanged t c m (deliverInside t c i v m)
   unfolding deliverInside
-  unchanged-inside i v h small =
-      unchanged-fold (c .objects) (insideTurn t c i v)
+  unchanged-inside i v h small m ready =
+      unchanged-fold (c .objects) (insideTurn t c i v) m (λ n most. ready-inside t c i v n small most m ready)
       (λ j b l r.
-      unchanged-pick (eqb (objectRecord t (c .ipdus) j .sender) i) l (deliver (object t c j) j v l) r
+      unchanged-pick (eqb (objectRecord t (c .ipdus) j .sender) i) l (deliver (object t c j) j v l)
       (λ e.
       unchanged-deliver j v b
-      (λ one. omega (arith, send-no-sender t c (r .right) j b one, eqb-true (objectRecord t (c .ipdus) j .sender) i e, h, r .right .shape .objects)) small l r))
+      (λ one. omega (arith, send-no-sender t c (r .right) j b one, eqb-true (objectRecord t (c .ipdus) j .sender) i e, h, r .right .shape .objects)) l r))
 
   -- delivery of a frame of a receive I-PDU
-  pub unchanged-frame : (k : ℕ) → k < c .ipdus → ipduRecord t k .direction ≡ receiving → (m : List ℕ) → Ready t c m → BookUnchanged m (deliverFrame t c k m)
+  pub unchanged-frame : (k : ℕ) → k < c .ipdus → ipduRecord t k .direction ≡ receiving → (m : List ℕ) → Ready t c m → BookUnchanged t c m (deliverFrame t c k m)
   unfolding deliverFrame
-  unchanged-frame k h two =
-      unchanged-fold (c .objects) (frameTurn t c k)
+  unchanged-frame k h two m ready =
+      unchanged-fold (c .objects) (frameTurn t c k) m (λ n most. ready-frame t c k n most m ready)
       (λ j b l r.
-      unchanged-pick (eqb (objectRecord t (c .ipdus) j .ipdu) k) l (deliver (object t c j) j (unpack (object t c j) l) l) r
-      (λ e. unchanged-deliver j (unpack (object t c j) l) b (received j b l r (eqb-true (objectRecord t (c .ipdus) j .ipdu) k e)) (unpack-lt t c l r j b) l r))
+      unchanged-pick (eqb (objectRecord t (c .ipdus) j .ipdu) k) l (deliver (object t c j) j (unpack (object t c j) l) l)
+      (λ e. unchanged-deliver j (unpack (object t c j) l) b (received j b l r (eqb-true (objectRecord t (c .ipdus) j .ipdu) k e)) l r))
     where
       received : (j : ℕ) → j < c .objects → (l : List ℕ) → Ready t c l → objectRecord t (c .ipdus) j .ipdu ≡ k → objectRecord t (c .ipdus) j .kind ≡ sending → ⊥
       received j b l r e one =
@@ -161,49 +247,29 @@ module _ (t : List ℕ) (c : Counts) where
           omega (arith, direction, there, one)
 
   -- marks
-  pub unchanged-mark : (k mark : ℕ) → mark ≤ 15 → (m : List ℕ) → Ready t c m → BookUnchanged m (markObjects t c k mark m)
+  pub unchanged-mark : (k mark : ℕ) → mark ≤ 15 → (m : List ℕ) → Ready t c m → BookUnchanged t c m (markObjects t c k mark m)
   unfolding markObjects marked
-  unchanged-mark k mark low =
-      unchanged-fold (c .objects) (markTurn t c k mark)
+  unchanged-mark k mark low m ready =
+      unchanged-fold (c .objects) (markTurn t c k mark) m (λ n most. ready-mark t c k mark n low most m ready)
       (λ j b l r.
-      unchanged-pick (eqb (objectRecord t (c .ipdus) j .ipdu) k) l (withObjectState l j (marked mark (objectState l j))) r
+      unchanged-pick (eqb (objectRecord t (c .ipdus) j .ipdu) k) l (withObjectState l j (marked mark (objectState l j)))
       (λ e.
-      unchanged-object j b (marked mark (objectState l j)) l r
-      (kept-marked (objectRecord t (c .ipdus) j .depth) (depths t c j) mark (objectState l j) low (ready-kept t c l r j b)) (λ one. refl) (λ one. refl)))
-
-  -- the row of an I-PDU, sent or received
-  pub unchanged-ipdu : (k : ℕ) → k < c .ipdus → (s : IpduState) → (m : List ℕ) → Ready t c m → Ready t c (withIpduState m k s)
-      → BookUnchanged m (withIpduState m k s)
-  unchanged-ipdu k h s m ready next = record { ready = next; same = same-ipdu t c m ready k h s }
-
-  pub unchanged-send : (k : ℕ) → k < c .ipdus → ipdu t k .direction ≡ Send → (s : IpduState) (m : List ℕ) → Ready t c m → SendKept (ipdu t k) s
-      → BookUnchanged m (withIpduState m k s)
-  unchanged-send k h d s m ready kept = unchanged-ipdu k h s m ready (ready-send t c m ready k h d s kept)
+      unchanged-object t c l r j b (marked mark (objectState l j))
+      (λ one. (kept-marked (objectRecord t (c .ipdus) j .depth) (depths t c j) mark (objectState l j) low (ready-kept t c l r j b), refl, refl))))
 
   -- a request that a send wants, made or postponed
-  pub unchanged-request : (i : ℕ) → isObject t c sending i ≡ true → (area m : List ℕ) → Ready t c m → BookUnchanged m (request t (object t c i) area m .memory)
+  pub unchanged-request : (i : ℕ) → isObject t c sending i ≡ true → (area m : List ℕ) → Ready t c m → BookUnchanged t c m (request t (object t c i) area m .memory)
   unfolding request objectOf
   unchanged-request i is area m ready =
-      picked (λ (o : Outcome). BookUnchanged m (o .memory)) (wants t (object t c i)) _ _
-      (λ w.
-      let here = usable t c (ready .right) i (object-there t c sending i is) .ipdu (wants-some t (object t c i) w) in
-      let d = ipdu-sends t (objectRecord t (c .ipdus) i .ipdu) (here .1 ∙ object-kind t c sending i is) in
-      unchanged-send (objectRecord t (c .ipdus) i .ipdu) (here .0) d
-      (afterRequest (ipdu t (objectRecord t (c .ipdus) i .ipdu)) (withWanted 1 (ipduState m (objectRecord t (c .ipdus) i .ipdu)))) m ready
-      (kept-offered (ipdu t (objectRecord t (c .ipdus) i .ipdu)) (withWanted 1 (ipduState m (objectRecord t (c .ipdus) i .ipdu)))
-      (kept-wanted (ipdu t (objectRecord t (c .ipdus) i .ipdu)) (ipduState m (objectRecord t (c .ipdus) i .ipdu))
-      (ready-send-kept t c m ready (objectRecord t (c .ipdus) i .ipdu) (here .0) d))))
-      (λ w. unchanged-refl m ready)
+      picked (λ (o : Outcome). BookUnchanged t c m (o .memory)) (wants t (object t c i)) _ _
+      (λ w. unchanged-ipdu t c m ready (objectRecord t (c .ipdus) i .ipdu) (low-ipdu t c (ready .right) i (object-there t c sending i is) (wants-some t (object t c i) w)) _)
+      (λ w. unchanged-refl t c m)
 
   -- periods
-  pub unchanged-periods : (on : Bool) (m : List ℕ) → Ready t c m → BookUnchanged m (setPeriods on t c m)
+  pub unchanged-periods : (on : Bool) (m : List ℕ) → Ready t c m → BookUnchanged t c m (setPeriods on t c m)
   unfolding setPeriods
-  unchanged-periods on =
-      unchanged-fold (c .ipdus) (periodTurn on t)
+  unchanged-periods on m ready =
+      unchanged-fold (c .ipdus) (periodTurn on t) m (λ n most. ready-periods t c on n most m ready)
       (λ k b l r.
-      unchanged-pick (hasPeriod (ipdu t k .mode)) l (withIpduState l k (periodSet on (ipdu t k) (ipduState l k))) r
-      (λ e. unchanged-ipdu k b (periodSet on (ipdu t k) (ipduState l k)) l r (turn-ready k b l r e)))
-    where
-      turn-ready : (k : ℕ) → k < c .ipdus → (l : List ℕ) → Ready t c l → hasPeriod (ipdu t k .mode) ≡ true
-          → Ready t c (withIpduState l k (periodSet on (ipdu t k) (ipduState l k)))
-      turn-ready k b l r e = rw e at (ready-period-turn t c on k b l r)
+      unchanged-pick (hasPeriod (ipdu t k .mode)) l (withIpduState l k (periodSet on (ipdu t k) (ipduState l k)))
+      (λ e. unchanged-ipdu t c l r k b (periodSet on (ipdu t k) (ipduState l k))))

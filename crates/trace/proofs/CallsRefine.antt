@@ -2,9 +2,9 @@
 -- Assumes nothing.
 use mathlib.Core.Bool.{Bool, true, false, not, _&&_}
 use mathlib.Core.List.{List}
-use mathlib.Core.Logic.{_⊎_, inl, ⊎-elim}
+use mathlib.Core.Logic.{⊎-elim}
 use mathlib.Core.Path.{_≡_, refl, sym, subst}
-use Prim.Native.Nat.{ℕ, _+_, _-_, _^_, _≤_, _<_}
+use Prim.Native.Nat.{ℕ, _^_, _<_}
 use native.Mathlib.Omega.{arith}
 use borrow.Author.Tests.{eqb-true, eqb-false, ltb-true}
 use lib.Dec.{ltb, eqb}
@@ -18,24 +18,21 @@ use Rattle.table.specs.declared.Direction.{Direction}
 use Rattle.table.specs.declared.Direction.the-variants.{Send, Receive}
 use Rattle.table.specs.Records.{receiving, sending, ipduRecord, objectRecord}
 use Rattle.table.specs.Check.{depths}
-use Rattle.table.specs.Decode.{ipduOf}
-use Rattle.state.specs.Layout.{slotAt, objectState, withObjectState, ipduState, withIpduState}
+use Rattle.state.specs.Layout.{slotAt, objectState, ipduState, withIpduState}
 use Rattle.state.specs.Updates.{withOld, withValue, withMarks, withQueue}
 use Rattle.state.specs.Ranges.{Ready}
-use Rattle.state.proofs.Ready.{ObjectKept, ready-kept, ready-object, ready-bytes}
-use Rattle.message.specs.Objects.{object, around, dequeue, initialiseAs, initialise}
+use Rattle.state.proofs.Ready.{ObjectKept, ready-kept}
+use Rattle.message.specs.Objects.{object, markSent, markSendError, dequeue, initialiseAs, initialise}
 use Rattle.message.specs.Delivery.{deliverFrame}
-use Rattle.message.proofs.RingPlaces.{around-lt}
-use Rattle.message.proofs.ObjectsInRange.{kept-old, kept-value, kept-marks, kept-queue}
-use Rattle.transmission.specs.Requests.{ipdu, confirmed, timerSet}
-use Rattle.transmission.proofs.RequestsInRange.{kept-confirmed, ready-send-kept, ready-timer}
+use Rattle.message.proofs.ObjectsInRange.{kept-old, kept-marks}
+use Rattle.transmission.specs.Requests.{ipdu, confirmed}
 use Rattle.calls.specs.Answers.{Outcome}
 use Rattle.calls.specs.Calls.{isObject, isIpdu, stopIn, initialiseIn, receiveIn, statusIn, marksIn, clearMarksIn, periodicIn, indicationIn, confirmIn}
-use Rattle.calls.proofs.Records.{object-there, object-kind, object-sends, object-receives, ipdu-there, ipdu-direction, ipdu-sends, ipdu-receives, ipdu-short}
+use Rattle.calls.proofs.Records.{object-there, object-kind, object-sends, object-receives, ipdu-there, ipdu-direction, ipdu-short}
+use Rattle.calls.proofs.ReadyKept.{mark-few, ready-initialise-as, ready-copied, ready-delivered, ready-confirmed}
 use Rattle.trace.specs.Book.{Book, enter, sends}
-use Rattle.trace.proofs.Refines.{same-object, same-slot, Refines, refines-same, refines-running}
-use Rattle.trace.proofs.BookUnchanged.{BookUnchanged, unchanged-refl, unchanged-then, unchanged-object, unchanged-ipdu, unchanged-send, unchanged-frame}
-use Rattle.trace.proofs.BookUnchanged.{unchanged-mark, unchanged-periods}
+use Rattle.trace.proofs.Refines.{Refines, refines-unchanged, refines-running}
+use Rattle.trace.proofs.BookUnchanged.{BookUnchanged, unchanged-refl, unchanged-then, unchanged-object, unchanged-ipdu, unchanged-slot, unchanged-frame, unchanged-mark, unchanged-periods}
 use Rattle.trace.proofs.SendRefines.{refines-entry}
 
 module _ (t : List ℕ) (c : Counts) where
@@ -53,13 +50,8 @@ module _ (t : List ℕ) (c : Counts) where
 
     initialise-receive : (objectRecord t (c .ipdus) i .kind ≡ sending → ⊥) → Refines t c b (initialiseAs Receive (object t c i) i v m)
     initialise-receive received =
-        let kept =
-        kept-old (objectRecord t (c .ipdus) i .depth) (depths t c i) v (withValue v (withQueue 0 0 0 (objectState m i))) small
-        (kept-value (objectRecord t (c .ipdus) i .depth) (depths t c i) v (withQueue 0 0 0 (objectState m i)) small
-        (kept-queue (objectRecord t (c .ipdus) i .depth) (depths t c i) 0 0 0 (objectState m i) (omega arith) (omega arith) (omega arith) own)) in
-        refines-same t c b m (withObjectState m i (withOld v (withValue v (withQueue 0 0 0 (objectState m i))))) a
-        (ready-object t c m (a .ready) i h (withOld v (withValue v (withQueue 0 0 0 (objectState m i)))) kept)
-        (same-object t c m (a .ready) i h (withOld v (withValue v (withQueue 0 0 0 (objectState m i)))) kept (λ one. absurd (received one)) (λ one. absurd (received one)))
+        refines-unchanged t c b m (initialiseAs Receive (object t c i) i v m) a (ready-initialise-as t c m (a .ready) i v small h Receive)
+        (unchanged-object t c m (a .ready) i h (withOld v (withValue v (withQueue 0 0 0 (objectState m i)))) (λ one. absurd (received one)))
 
   by-direction : (b : Book) (m : List ℕ) (i v : ℕ) (d : Direction) → object t c i .direction ≡ d → Refines t c b (initialiseAs d (object t c i) i v m)
       → Refines t c b (initialise (object t c i) i v m)
@@ -93,32 +85,18 @@ module _ (t : List ℕ) (c : Counts) where
 
   module _ (m : List ℕ) (ready : Ready t c m) where
     as-found : BookUnchanged t c m m
-    as-found = unchanged-refl t c m ready
+    as-found = unchanged-refl t c m
 
-    -- a value taken from a queue of a receive object
-    unchanged-take : (i : ℕ) → isObject t c receiving i ≡ true → eqb (objectRecord t (c .ipdus) i .depth) 0 ≡ false
-        → BookUnchanged t c m (dequeue (objectRecord t (c .ipdus) i .depth) i m)
-    unfolding dequeue
-    unchanged-take i is some =
-        let h = object-there t c receiving i is in
-        let kept = ready-kept t c m ready i h in
-        let deep : objectRecord t (c .ipdus) i .depth ≡ 0 → ⊥ = eqb-false (objectRecord t (c .ipdus) i .depth) 0 some in
-        let low = around-lt (objectRecord t (c .ipdus) i .depth) (objectState m i .head + 1) (omega (arith, deep, kept .head)) in
-        let two = object-kind t c receiving i is in
-        unchanged-object t c i h (withQueue 0 (around (objectRecord t (c .ipdus) i .depth) (objectState m i .head + 1)) (objectState m i .count - 1) (objectState m i)) m ready
-        (kept-queue (objectRecord t (c .ipdus) i .depth) (depths t c i) 0 (around (objectRecord t (c .ipdus) i .depth) (objectState m i .head + 1)) (objectState m i .count - 1)
-        (objectState m i) (omega arith) (omega (arith, kept .count)) (omega (arith, low)) kept)
-        (λ one. absurd (omega (arith, one, two))) (λ one. absurd (omega (arith, one, two)))
-
+    -- a queue that a value is taken from is a receive object's
     pub unchanged-receive : (i : ℕ) → BookUnchanged t c m (receiveIn t c i m .memory)
-    unfolding receiveIn
+    unfolding receiveIn dequeue
     unchanged-receive i =
         pick-unchanged (isObject t c receiving i) m _ _
         (λ is.
-        ⊎-elim
-        (λ (e : eqb (objectRecord t (c .ipdus) i .depth) 0 ≡ true). rw e as-found)
-        (λ (e : eqb (objectRecord t (c .ipdus) i .depth) 0 ≡ false). rw e (pick-unchanged (eqb (objectState m i .count) 0) m _ _ (λ z. as-found) (unchanged-take i is e)))
-        (true-or-false (eqb (objectRecord t (c .ipdus) i .depth) 0)))
+        let two = object-kind t c receiving i is in
+        pick-unchanged (eqb (objectRecord t (c .ipdus) i .depth) 0) m _ _ (λ e. as-found)
+        (pick-unchanged (eqb (objectState m i .count) 0) m _ _ (λ z. as-found)
+        (unchanged-object t c m ready i (object-there t c receiving i is) _ (λ one. absurd (omega (arith, one, two))))))
         as-found
 
     pub unchanged-status : (i : ℕ) → BookUnchanged t c m (statusIn t c i m .memory)
@@ -135,8 +113,8 @@ module _ (t : List ℕ) (c : Counts) where
         pick-unchanged (ltb i (c .objects)) m _ _
         (λ e.
         let h = ltb-true i (c .objects) e in
-        unchanged-object t c i h (withMarks 0 (objectState m i)) m ready
-        (kept-marks (objectRecord t (c .ipdus) i .depth) (depths t c i) 0 (objectState m i) (omega arith) (ready-kept t c m ready i h)) (λ one. refl) (λ one. refl))
+        unchanged-object t c m ready i h (withMarks 0 (objectState m i))
+        (λ one. (kept-marks (objectRecord t (c .ipdus) i .depth) (depths t c i) 0 (objectState m i) (omega arith) (ready-kept t c m ready i h), refl, refl)))
         as-found
 
     pub unchanged-periodic : (on : Bool) → BookUnchanged t c m (periodicIn on t c m .memory)
@@ -144,7 +122,7 @@ module _ (t : List ℕ) (c : Counts) where
     unchanged-periodic on = unchanged-periods t c on m ready
 
     pub unchanged-indication : (k : ℕ) (good : Bool) (f : List ℕ) → Bytes f → BookUnchanged t c m (indicationIn t c k good f m .memory)
-    unfolding indicationIn ipduOf
+    unfolding indicationIn
     unchanged-indication k false f bytes = pick-unchanged (isIpdu t c receiving k) m _ _ (λ e. unchanged-mark t c k 4 (omega arith) m ready) as-found
     unchanged-indication k true f bytes =
         pick-unchanged (isIpdu t c receiving k) m _ _
@@ -153,41 +131,25 @@ module _ (t : List ℕ) (c : Counts) where
         let two = ipdu-direction t c receiving k e in
         pick-unchanged (eqb (length f) (ipduRecord t k .length)) m _ _
         (λ same.
-        let size : length f ≤ 8 = omega (arith, eqb-true (length f) (ipduRecord t k .length) same, ipdu-short t c (ready .right) k low) in
-        let copied : BookUnchanged t c m (replaced (slotAt k) f m) =
-        record {
-          ready =
-              ready-bytes t c m ready (slotAt k) f bytes (omega (arith, size, low, ready .right .shape .ipdus, ready .long))
-              (inl (omega arith, omega (arith, size, low, ready .right .shape .ipdus)));
-          same = same-slot t c m ready k low (λ one. omega (arith, one, two)) f size;
-        } in
-        let frames = unchanged-frame t c k low two (replaced (slotAt k) f m) (copied .ready) in
-        let all = unchanged-then t c m (replaced (slotAt k) f m) (deliverFrame t c k (replaced (slotAt k) f m)) copied frames in
-        unchanged-then t c m (deliverFrame t c k (replaced (slotAt k) f m)) _ all
-        (unchanged-ipdu t c k low (timerSet (ipdu t k) (ipduState (deliverFrame t c k (replaced (slotAt k) f m)) k)) (deliverFrame t c k (replaced (slotAt k) f m)) (all .ready)
-        (ready-timer t c (deliverFrame t c k (replaced (slotAt k) f m)) (all .ready) k low (ipdu-receives t k two))))
+        let exact = eqb-true (length f) (ipduRecord t k .length) same in
+        let copied = replaced (slotAt k) f m in
+        unchanged-then t c m copied _
+        (unchanged-slot t c m ready k low (λ one. omega (arith, one, two)) f (omega (arith, exact, ipdu-short t c (ready .right) k low)))
+        (unchanged-then t c copied (deliverFrame t c k copied) _ (unchanged-frame t c k low two copied (ready-copied t c m ready k low f bytes exact))
+        (unchanged-ipdu t c (deliverFrame t c k copied) (ready-delivered t c m ready k low f bytes exact) k low _)))
         as-found)
         as-found
 
     pub unchanged-confirm : (k : ℕ) (good : Bool) → BookUnchanged t c m (confirmIn t c k good m .memory)
-    unfolding confirmIn ipduOf
+    unfolding confirmIn
     unchanged-confirm k good =
         pick-unchanged (isIpdu t c sending k) m _ _
         (λ e.
-        let low = ipdu-there t c sending k e in
-        let one = ipdu-direction t c sending k e in
-        let d = ipdu-sends t k one in
-        let closed =
-        unchanged-send t c k low d (confirmed good (ipdu t k) (ipduState m k)) m ready
-        (kept-confirmed good (ipdu t k) (ipduState m k) (ready-send-kept t c m ready k low d)) in
+        let closed = withIpduState m k (confirmed good (ipdu t k) (ipduState m k)) in
         pick-unchanged (eqb (ipduState m k .requested) 0) m _ _ (λ z. as-found)
-        (unchanged-then t c m (withIpduState m k (confirmed good (ipdu t k) (ipduState m k))) _ closed
-        (unchanged-mark t c k (pick good 2 8) (few good) (withIpduState m k (confirmed good (ipdu t k) (ipduState m k))) (closed .ready))))
+        (unchanged-then t c m closed _ (unchanged-ipdu t c m ready k (ipdu-there t c sending k e) _)
+        (unchanged-mark t c k (pick good markSent markSendError) (mark-few good) closed (ready-confirmed t c m ready k good e))))
         as-found
-      where
-        few : (x : Bool) → pick x 2 8 ≤ 15
-        few true = omega arith
-        few false = omega arith
 
   -- ---- stop
 

@@ -18,14 +18,14 @@ use Rattle.table.specs.Decode.{ipduOf, objectOf, Right}
 use Rattle.table.proofs.Accepted.{usable}
 use Rattle.state.specs.declared.IpduState.{IpduState}
 use Rattle.state.specs.Layout.{memorySize, slotAt, ipduState, areaSize}
-use Rattle.message.specs.Objects.{object}
 use Rattle.state.specs.Updates.{withWanted}
+use Rattle.message.specs.Objects.{object}
 use Rattle.transmission.specs.Requests.{ipdu, isDue, copiedToArea}
 use Rattle.calls.specs.Answers.{Outcome, valueOf}
 use Rattle.calls.specs.Calls.{isObject, wants, tryRequest, request}
 use Rattle.calls.proofs.Records.{object-there, object-kind, ipdu-short, wants-some}
+use Rattle.calls.proofs.SlotRows.{handed-front, handed-length, handed-other, handed-same}
 use Rattle.trace.specs.Demand3.{names}
-use Rattle.trace.proofs.SlotRows.{handed-front, handed-length, handed-other, handed-same}
 
 -- a word of 0 names nothing
 pub in-area-none : (k : ℕ) → names 0 k → ⊥

@@ -1,10 +1,7 @@
 pub mod Refusals
-pub mod SlotRows
-pub mod SendParts
-pub mod StartInRange
 pub mod Answered
-pub mod Refines
 pub mod BookUnchanged
+pub mod Refines
 pub mod SendRefines
 pub mod CallsRefine
 pub mod FramesInArea

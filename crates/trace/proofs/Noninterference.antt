@@ -19,18 +19,19 @@ use Rattle.table.proofs.Accepted.{accepted-right}
 use Rattle.state.specs.Layout.{memorySize, slotAt, objectState, withObjectState}
 use Rattle.state.specs.Updates.{counted}
 use Rattle.calls.specs.Answers.{Outcome, numberOf, valueOf}
-use Rattle.layer.specs.Admission.{workingMemory, startAdmission, ifAdmitted}
-use Rattle.layer.specs.Start.{started}
 use Rattle.calls.specs.Calls.{isObject, sendIn}
 use Rattle.calls.specs.Tick.{tickIn}
+use Rattle.layer.specs.Admission.{workingMemory, startAdmission, ifAdmitted}
+use Rattle.layer.specs.Start.{started}
 use Rattle.layer.specs.Step.{Call, start, send, tick, lentBytes, longEnough, describe, step}
+use Rattle.layer.proofs.Admitted.{front-of}
+use Rattle.layer.proofs.ReadyKept.{start-ready}
 use Rattle.trace.specs.Book.{Book, keeps, advance}
 use Rattle.trace.specs.Demand3.{Typed, AllTyped, wordOf, inside, Alike, same, areas, ticks, dropped, AllAlike, SameAnswer, AllSame}
 use Rattle.trace.proofs.SendFrames.{send-area, send-dropped}
 use Rattle.trace.proofs.TickFrames.{tick-area}
-use Rattle.layer.proofs.Fresh.{started-length}
 use Rattle.trace.proofs.SendRefines.{refines-send}
-use Rattle.trace.proofs.Steps.{front-of, Follows, admissionBy, Admits, goes, stays, admits, admission-is, own-long, step-follows, step-frames}
+use Rattle.trace.proofs.Steps.{Follows, admissionBy, Admits, goes, stays, admits, admission-is, own-long, step-follows, step-frames}
 
 -- the same answer, and memories alike in the first 8,192 bytes
 pub record SameOutcome (o p : Outcome) : Type 0 where
@@ -45,7 +46,7 @@ module _ (t : List ℕ) (c : Counts) (accepted : check t ≡ Accepted c) (bt : B
   pub start-same : (m n : List ℕ) → memorySize ≤ length m → memorySize ≤ length n → SameOutcome (step t start m) (step t start n)
   unfolding step startAdmission
   start-same m n long far =
-      let size = started-length t c (accepted-right t c accepted) in
+      let size = start-ready t c (accepted-right t c accepted) bt .long in
       rw (accepted, le-leb memorySize (length m) long, le-leb memorySize (length n) far)
       (record { answer = refl; memory = front-of (started t c) m size ∙ sym (front-of (started t c) n size) })
 

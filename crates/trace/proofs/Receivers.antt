@@ -29,13 +29,14 @@ use Rattle.message.proofs.Queues.{waiting-length, waiting-oldest, waiting-arriv
 use Rattle.calls.specs.declared.Answer.the-variants.{Done}
 use Rattle.calls.specs.Answers.{Outcome, outcome, numberOf, valueOf}
 use Rattle.calls.specs.Calls.{isObject, limited, receiveIn}
+use Rattle.calls.proofs.SendParts.{after}
 use Rattle.layer.specs.Admission.{workingMemory, onWorkingMemory}
 use Rattle.layer.specs.Step.{Call, start, receive, longEnough, describe, step}
+use Rattle.layer.proofs.Admitted.{front-of}
 use Rattle.trace.specs.Book.{Book, opened, advance, bookAfter}
 use Rattle.trace.specs.Demand3.{Typed}
 use Rattle.trace.specs.RoundTrip.{Runs, memoryOf, Takes, Arrived}
-use Rattle.trace.proofs.SendParts.{after}
-use Rattle.trace.proofs.Steps.{Follows, start-accepted, start-follows, front-of, admission-is, own-long, step-follows, list-follows}
+use Rattle.trace.proofs.Steps.{Follows, start-accepted, start-follows, admission-is, own-long, step-follows, list-follows}
 
 -- ---- a layer that runs
 

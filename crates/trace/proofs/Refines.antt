@@ -1,43 +1,40 @@
--- Working memory refines the book of demand 3: old values, counts, stopped, and each bit of each send I-PDU. What a call does
--- apart from start, stop, send and initialise changes none of these.
+-- Working memory refines the book of demand 3: old values, counts, stopped, and each bit of each send I-PDU.
 -- Assumes nothing.
 use mathlib.Core.Bool.{Bool, true, false}
 use mathlib.Core.List.{List}
-use mathlib.Core.Logic.{_⊎_, inl, inr, ⊎-elim}
-use mathlib.Core.Path.{_≡_, refl, sym, ap, ap₂, _∙_}
-use Prim.Native.Nat.{ℕ, _+_, _-_, _*_, _≤_, _<_}
+use mathlib.Core.Logic.{inl, inr, ⊎-elim}
+use mathlib.Core.Path.{_≡_, sym, ap, ap₂, _∙_}
+use Prim.Native.Nat.{ℕ, _*_, _≤_, _<_}
 use native.Mathlib.Omega.{arith}
 use borrow.Author.Tests.{eqb-true, eqb-false, eq-eqb, ne-eqb}
 use lib.Dec.{eqb}
 use lib.ListN.{length}
-use Rattle.memory.specs.Bytes.{value, part, numberAt, replaced}
+use Rattle.memory.specs.Bytes.{part}
 use Rattle.memory.specs.Search.{pick, anyBelow}
-use Rattle.memory.proofs.Parts.{part-apart, part-length}
+use Rattle.memory.proofs.Parts.{part-length}
 use Rattle.memory.proofs.Search.{Found, found, nowhere, there, any-some, least-at}
-use Rattle.memory.proofs.Tests.{eq-or-ne, true-or-false, true-not-false, lt-or-le}
+use Rattle.memory.proofs.Tests.{true-or-false, true-not-false, lt-or-le}
 use Rattle.bits.specs.Bits.{frameBit, place, owns, packed}
 use Rattle.bits.proofs.RoundTrip.{Fits, packed-own, packed-other}
 use Rattle.bits.proofs.Places.{room-slot}
 use Rattle.table.specs.declared.Counts.{Counts}
 use Rattle.table.specs.declared.Object.{Object}
 use Rattle.table.specs.declared.ObjectRecord.{ObjectRecord}
-use Rattle.table.specs.Records.{mostIpdus, sending, absent, ipduRecord, objectRecord}
+use Rattle.table.specs.Records.{sending, absent, ipduRecord, objectRecord}
 use Rattle.table.specs.Rules.{orderOf}
 use Rattle.table.specs.Decode.{objectOf, Right}
 use Rattle.table.proofs.Accepted.{usable}
 use Rattle.table.proofs.Facts.{ipdu-facts}
-use Rattle.state.specs.declared.IpduState.{IpduState}
 use Rattle.state.specs.declared.ObjectState.{ObjectState}
-use Rattle.state.specs.Layout.{rowSize, queues, memorySize, runningAt, withRunning, slotAt, ipduRow, withIpduState, objectRow, objectState, withObjectState}
+use Rattle.state.specs.Layout.{memorySize, runningAt, withRunning, slotAt, objectState}
 use Rattle.state.specs.Ranges.{Ready}
-use Rattle.state.proofs.RowLaws.{ipdu-part, ipdu-keeps-objects, object-part, object-stored, object-other, object-read}
-use Rattle.state.proofs.Ready.{ObjectKept, kept-fits, object-row, ipdu-row}
 use Rattle.state.proofs.Running.{running-stored, running-part, running-row, ready-running}
-use Rattle.message.specs.Objects.{object, Placed, startBit, pack}
-use Rattle.message.proofs.ObjectsInRange.{right-placed, pack-room, packed-slot-length}
+use Rattle.message.specs.Objects.{object, Placed, pack}
+use Rattle.message.proofs.ObjectsInRange.{right-placed}
+use Rattle.calls.proofs.SlotRows.{pack-apart, pack-holds}
+use Rattle.calls.proofs.SendParts.{start-bit, size-some, low-ipdu}
 use Rattle.trace.specs.Book.{Entry, Book, enter, lastOf, messageBit, bookBit}
-use Rattle.trace.proofs.SlotRows.{pack-holds}
-use Rattle.trace.proofs.SendParts.{start-bit, size-some, low-ipdu}
+use Rattle.trace.proofs.BookUnchanged.{BookUnchanged}
 
 -- ---- a packed slot, bit by bit
 
@@ -65,127 +62,13 @@ packed-bit r v f fits p low = cases (found (r .size) test)
 
 -- packing leaves the slots of other I-PDUs
 pack-other : (o : Object) (v : ℕ) (m : List ℕ) → Placed o m → (k : ℕ) → (k ≡ o .ipdu .0 → ⊥) → part (slotAt k) 8 (pack o v m) ≡ part (slotAt k) 8 m
-unfolding pack
 pack-other o v m placed k ne =
-    ⊎-elim
-    (λ (e : eqb (o .ipdu .0) absent ≡ true). rw e)
-    (λ (e : eqb (o .ipdu .0) absent ≡ false).
-    let size = packed-slot-length o v m placed e in
-    rw e
-    (part-apart (slotAt (o .ipdu .0)) (packed (o .order) (startBit o) (o .size .0) v (part (slotAt (o .ipdu .0)) 8 m)) m (slotAt k) 8
-    (omega (arith, size, pack-room o v m placed e))
-    (⊎-elim (λ (l : k < o .ipdu .0). inl (omega (arith, l))) (λ (g : o .ipdu .0 ≤ k). inr (omega (arith, g, ne, size))) (lt-or-le k (o .ipdu .0)))))
-    (true-or-false (eqb (o .ipdu .0) absent))
+    pack-apart o v m placed (slotAt k) 8
+    (λ e. ⊎-elim (λ (l : k < o .ipdu .0). inl (omega (arith, l))) (λ (g : o .ipdu .0 ≤ k). inr (omega (arith, g, ne))) (lt-or-le k (o .ipdu .0)))
 
--- ---- what the book speaks of
+-- ---- refinement
 
 module _ (t : List ℕ) (c : Counts) where
-  -- two memories that the book cannot tell apart
-  pub record Same (m n : List ℕ) : Type 0 where
-    pub running : runningAt n ≡ runningAt m
-    pub old : (i : ℕ) → i < c .objects → objectRecord t (c .ipdus) i .kind ≡ sending → objectState n i .old ≡ objectState m i .old
-    pub count : (i : ℕ) → i < c .objects → objectRecord t (c .ipdus) i .kind ≡ sending → objectState n i .occurrence ≡ objectState m i .occurrence
-    pub slot : (k : ℕ) → k < c .ipdus → ipduRecord t k .direction ≡ sending → part (slotAt k) 8 n ≡ part (slotAt k) 8 m
-
-  pub same-refl : (m : List ℕ) → Same m m
-  same-refl m = record { running = refl; old = λ i h k. refl; count = λ i h k. refl; slot = λ k h d. refl }
-
-  pub same-trans : (l m n : List ℕ) → Same l m → Same m n → Same l n
-  same-trans l m n a b =
-      record {
-        running = b .running ∙ a .running;
-        old = λ i h k. b .old i h k ∙ a .old i h k;
-        count = λ i h k. b .count i h k ∙ a .count i h k;
-        slot = λ k h d. b .slot k h d ∙ a .slot k h d;
-      }
-
-  -- an object's row, where a send object keeps old and count
-  pub same-object : (m : List ℕ) → Ready t c m → (j : ℕ) → j < c .objects → (s : ObjectState)
-      → ObjectKept (objectRecord t (c .ipdus) j .depth) (Rattle.table.specs.Check.depths t c j) s
-      → (objectRecord t (c .ipdus) j .kind ≡ sending → s .old ≡ objectState m j .old)
-      → (objectRecord t (c .ipdus) j .kind ≡ sending → s .occurrence ≡ objectState m j .occurrence) → Same m (withObjectState m j s)
-  unfolding runningAt numberAt
-  same-object m ready j h s kept old count =
-      record {
-        running = ap value (object-part m j s room 0 1 (inl (omega arith)));
-        old = λ i b k.
-            ⊎-elim
-            (λ (e : i ≡ j). rw (e, stored) (old (rw e at k)))
-            (λ (ne : i ≡ j → ⊥). ap (λ (x : ObjectState). x .old) (object-other m j s room i ne))
-            (eq-or-ne i j);
-        count = λ i b k.
-            ⊎-elim
-            (λ (e : i ≡ j). rw (e, stored) (count (rw e at k)))
-            (λ (ne : i ≡ j → ⊥). ap (λ (x : ObjectState). x .occurrence) (object-other m j s room i ne))
-            (eq-or-ne i j);
-        slot = λ k b d. object-part m j s room (slotAt k) 8 (inl (omega (arith, b, ready .right .shape .ipdus)));
-      }
-    where
-      room : objectRow j + rowSize ≤ length m
-      room = object-row t c m ready j h
-
-      stored : objectState (withObjectState m j s) j ≡ s
-      stored = object-stored m j s room (kept-fits t c m ready j h s kept)
-
-  -- an I-PDU's row
-  pub same-ipdu : (m : List ℕ) → Ready t c m → (k : ℕ) → k < c .ipdus → (s : IpduState) → Same m (withIpduState m k s)
-  unfolding runningAt numberAt
-  same-ipdu m ready k h s =
-      record {
-        running = ap value (ipdu-part m k s room 0 1 (inl (omega arith)));
-        old = λ i b e. ap (λ (x : ObjectState). x .old) (ipdu-keeps-objects m k s room low i);
-        count = λ i b e. ap (λ (x : ObjectState). x .occurrence) (ipdu-keeps-objects m k s room low i);
-        slot = λ j b d. ipdu-part m k s room (slotAt j) 8 (inr (omega (arith, low)));
-      }
-    where
-      room : ipduRow k + rowSize ≤ length m
-      room = ipdu-row t c m ready k h
-
-      low : k < mostIpdus
-      low = omega (arith, h, ready .right .shape .ipdus)
-
-  -- bytes behind the rows, or in the slot of a receive I-PDU
-  pub same-queue : (m : List ℕ) → Ready t c m → (at : ℕ) (f : List ℕ) → at + length f ≤ length m → queues ≤ at → Same m (replaced at f m)
-  unfolding runningAt numberAt
-  same-queue m ready at f room high =
-      record {
-        running = ap value (part-apart at f m 0 1 room (inl (omega (arith, high))));
-        old = λ i b k. ap (λ (x : ObjectState). x .old) (row i b);
-        count = λ i b k. ap (λ (x : ObjectState). x .occurrence) (row i b);
-        slot = λ k b d. part-apart at f m (slotAt k) 8 room (inl (omega (arith, high, b, ready .right .shape .ipdus)));
-      }
-    where
-      row : (i : ℕ) → i < c .objects → objectState (replaced at f m) i ≡ objectState m i
-      row i b =
-          object-read (replaced at f m) m i (λ o w e. part-apart at f m (objectRow i + o) w room (inl (omega (arith, e, b, high, ready .right .shape .objects))))
-
-  pub same-slot : (m : List ℕ) → Ready t c m → (j : ℕ) → j < c .ipdus → (ipduRecord t j .direction ≡ sending → ⊥) → (f : List ℕ) → length f ≤ 8
-      → Same m (replaced (slotAt j) f m)
-  unfolding runningAt numberAt
-  same-slot m ready j h received f few =
-      record {
-        running = ap value (part-apart (slotAt j) f m 0 1 room (inl (omega arith)));
-        old = λ i b k. ap (λ (x : ObjectState). x .old) (row i);
-        count = λ i b k. ap (λ (x : ObjectState). x .occurrence) (row i);
-        slot = λ k b d.
-            ⊎-elim
-            (λ (e : k ≡ j). absurd (received (rw e at d)))
-            (λ (ne : k ≡ j → ⊥).
-            part-apart (slotAt j) f m (slotAt k) 8 room
-            (⊎-elim (λ (l : k < j). inl (omega (arith, l))) (λ (g : j ≤ k). inr (omega (arith, g, ne, few))) (lt-or-le k j)))
-            (eq-or-ne k j);
-      }
-    where
-      room : slotAt j + length f ≤ length m
-      room = omega (arith, few, h, ready .long, ready .right .shape .ipdus)
-
-      row : (i : ℕ) → objectState (replaced (slotAt j) f m) i ≡ objectState m i
-      row i =
-          object-read (replaced (slotAt j) f m) m i
-          (λ o w e. part-apart (slotAt j) f m (objectRow i + o) w room (inr (omega (arith, few, h, ready .right .shape .ipdus))))
-
-  -- ---- refinement
-
   pub record Refines (b : Book) (m : List ℕ) : Type 0 where
     pub ready : Ready t c m
     pub running : runningAt m ≡ pick (b .stopped) 0 1
@@ -194,8 +77,8 @@ module _ (t : List ℕ) (c : Counts) where
     pub bits : (k : ℕ) → k < c .ipdus → ipduRecord t k .direction ≡ sending → (p : ℕ) → p < 64
         → frameBit (part (slotAt k) 8 m) p ≡ bookBit t c (b .entries) k p
 
-  pub refines-same : (b : Book) (m n : List ℕ) → Refines b m → Ready t c n → Same m n → Refines b n
-  refines-same b m n a ready s =
+  pub refines-unchanged : (b : Book) (m n : List ℕ) → Refines b m → Ready t c n → BookUnchanged t c m n → Refines b n
+  refines-unchanged b m n a ready s =
       record {
         ready = ready;
         running = s .running ∙ a .running;

@@ -31,9 +31,9 @@ use Rattle.calls.specs.declared.Answer.the-variants.{Done}
 use Rattle.calls.specs.Answers.{Outcome, outcome, valueOf}
 use Rattle.calls.specs.Calls.{isObject, wants, request, sendOf, sendIn}
 use Rattle.calls.proofs.Records.{object-there, wants-some}
+use Rattle.calls.proofs.SendParts.{judge, after, after-ready, sent-as}
 use Rattle.trace.specs.Book.{Book, keeps}
 use Rattle.trace.specs.Demand3.{inside}
-use Rattle.trace.proofs.SendParts.{judge, after, after-ready, sent-as}
 use Rattle.trace.proofs.Refines.{Refines}
 use Rattle.trace.proofs.BookUnchanged.{sender-received, unchanged-request}
 use Rattle.trace.proofs.SendRefines.{filtered-out, judge-is}
@@ -70,7 +70,7 @@ module _ (t : List ℕ) (c : Counts) where
           in-area-more t c (ready .right) k 0 low area m fits (ready .long) (pow-pos k) (λ j e. absurd (in-area-none j e)) (in-area-zero area m) o
           (request-tried t c (ready .right) i is w area m) in
           in-area-same t c (valueOf (o .answer)) (o .area) m (o .memory) (ready .right) (rw (zero-add (valueOf (o .answer))) at (x .hands))
-          (unchanged-request t c i is area m ready .same .slot)
+          (unchanged-request t c i is area m ready .slot)
 
   -- ---- send
 

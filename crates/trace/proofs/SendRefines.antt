@@ -2,9 +2,9 @@
 -- Assumes nothing.
 use mathlib.Core.Bool.{Bool, true, false}
 use mathlib.Core.List.{List}
-use mathlib.Core.Logic.{_⊎_, inl, ⊎-elim}
+use mathlib.Core.Logic.{inl, ⊎-elim}
 use mathlib.Core.Path.{_≡_, refl, sym, ap, ap₂, _∙_}
-use Prim.Native.Nat.{ℕ, _+_, _-_, _^_, _≤_, _<_}
+use Prim.Native.Nat.{ℕ, _+_, _^_, _≤_, _<_}
 use native.Mathlib.Omega.{arith}
 use borrow.Author.Tests.{eq-eqb, ne-eqb}
 use lib.ListN.{length}
@@ -25,10 +25,11 @@ use Rattle.message.specs.Objects.{object, afterFilter, pack}
 use Rattle.message.proofs.ObjectsInRange.{kept-after-filter, ready-pack, ready-placed}
 use Rattle.calls.specs.Calls.{isObject, request, sendIn}
 use Rattle.calls.proofs.Records.{object-kind}
+use Rattle.calls.proofs.SlotRows.{pack-row, pack-front}
+use Rattle.calls.proofs.SendParts.{here, inner, judge, inner-ready, sent-as}
+use Rattle.calls.proofs.ReadyKept.{ready-request}
 use Rattle.trace.specs.Book.{Entry, Book, enter, sends, lastOf, keeps, nextCounts, afterSend}
-use Rattle.trace.proofs.SlotRows.{pack-row, pack-front}
-use Rattle.trace.proofs.SendParts.{here, inner, judge, sent-as}
-use Rattle.trace.proofs.Refines.{Refines, refines-same, pack-bits}
+use Rattle.trace.proofs.Refines.{Refines, refines-unchanged, pack-bits}
 use Rattle.trace.proofs.BookUnchanged.{unchanged-inside, unchanged-request}
 
 -- ---- a row of a send object set, and perhaps its value packed
@@ -150,8 +151,7 @@ module _ (t : List ℕ) (c : Counts) (b : Book) (m : List ℕ) (a : Refines t c 
 
   first-agrees : Refines t c b (inner t c m (a .ready) i is v small area)
   first-agrees =
-      let u = unchanged-inside t c i v low small m (a .ready) in
-      refines-same t c b m first a (u .ready) (u .same)
+      refines-unchanged t c b m first a (inner-ready t c m (a .ready) i is v small area) (unchanged-inside t c i v low small m (a .ready))
 
   row-kept : ObjectKept (objectRecord t (c .ipdus) i .depth) (depths t c i) (afterFilter (judge t c m (a .ready) i is v small area) v (objectState first i))
   row-kept =
@@ -175,8 +175,7 @@ module _ (t : List ℕ) (c : Counts) (b : Book) (m : List ℕ) (a : Refines t c 
   -- a request changes nothing that the book speaks of
   request-agrees : (e : Book) (n : List ℕ) → Refines t c e n → Refines t c e (request t (object t c i) area n .memory)
   request-agrees e n x =
-      let u = unchanged-request t c i is area n (x .ready) in
-      refines-same t c e n (request t (object t c i) area n .memory) x (u .ready) (u .same)
+      refines-unchanged t c e n (request t (object t c i) area n .memory) x (ready-request t c i is area n (x .ready)) (unchanged-request t c i is area n (x .ready))
 
   pub refines-sent : Refines t c (afterSend t c b i v) (sendIn t c i v area m .memory)
   refines-sent =

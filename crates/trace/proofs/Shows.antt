@@ -4,7 +4,7 @@
 use mathlib.Core.Bool.{Bool, true, false, not, _&&_}
 use mathlib.Core.List.{List, []}
 use mathlib.Core.Logic.{⊎-elim}
-use mathlib.Core.Path.{_≡_, refl, ap}
+use mathlib.Core.Path.{_≡_, refl, ap, subst}
 use Prim.Native.Nat.{ℕ}
 use borrow.Author.Tests.{leb-true}
 use lib.Dec.{leb, ltb, eqb}
@@ -24,10 +24,11 @@ use Rattle.calls.specs.Calls.{isObject, stopIn, wants, request, sendOf, sendIn,
 use Rattle.calls.specs.Tick.{tickIn}
 use Rattle.layer.specs.Step.{Call, start, stop, send, initialise, receive, status, marks, clearMarks, startPeriodic, stopPeriodic, indication, confirm, tick, noArea}
 use Rattle.layer.specs.Step.{lentBytes, longEnough, toldNothing, Description, described, describe}
+use Rattle.layer.proofs.ReadyKept.{own-ready}
 use Rattle.trace.specs.Book.{Book, entered}
 use Rattle.trace.specs.Demand3.{Small, done, wordIn, Judged}
-use Rattle.trace.proofs.Refines.{Refines, refines-same}
 use Rattle.trace.proofs.BookUnchanged.{BookUnchanged}
+use Rattle.trace.proofs.Refines.{Refines, refines-unchanged}
 use Rattle.trace.proofs.SendRefines.{refines-send}
 use Rattle.trace.proofs.CallsRefine.{refines-initialise, refines-stop, unchanged-receive, unchanged-status, unchanged-marks, unchanged-clear, unchanged-periodic}
 use Rattle.trace.proofs.CallsRefine.{unchanged-indication, unchanged-confirm}
@@ -55,21 +56,29 @@ pub record Shows (t : List ℕ) (c : Counts) (call : Call) (d : Description) : T
       → FramesInArea t c (wordIn (d .lent) (d .does t c m .answer)) (d .does t c m .area) (d .does t c m .memory)
 
 module _ (t : List ℕ) (c : Counts) where
+  -- a call keeps every number in its range
+  ready-after : (call : Call) (m : List ℕ) → Ready t c m → Small (describe call .told) → Bytes (describe call .bytes) → Ready t c (describe call .does t c m .memory)
+  ready-after call m ready y = own-ready t c call m ready (λ i v e. rw e at y) (λ i v e. rw e at y)
+
   -- ---- a call that the book does not see
 
-  unchanged-book : (b : Book) (m n : List ℕ) (went : Bool) → Refines t c b m → BookUnchanged t c m n → Refines t c (pick went b b) n
-  unchanged-book b m n true a u = refines-same t c b m n a (u .ready) (u .same)
-  unchanged-book b m n false a u = refines-same t c b m n a (u .ready) (u .same)
+  unchanged-book : (b : Book) (m n : List ℕ) (went : Bool) → Refines t c b m → Ready t c n → BookUnchanged t c m n → Refines t c (pick went b b) n
+  unchanged-book b m n went a next same = let x = refines-unchanged t c b m n a next same in picked (λ (d : Book). Refines t c d n) went b b (λ e. x) (λ e. x)
 
-  unchanged-row : (call : Call) (bytes : List ℕ) (does : List ℕ → Counts → List ℕ → Outcome) → ((m : List ℕ) → Answered call m [] (does t c m))
-      → ((m : List ℕ) → Ready t c m → Bytes bytes → BookUnchanged t c m (does t c m .memory)) → Shows t c call (described noArea true toldNothing bytes does)
-  unchanged-row call bytes does answered unseen =
+  unchanged-row : (call : Call) (bytes : List ℕ) (does : List ℕ → Counts → List ℕ → Outcome) → describe call ≡ described noArea true toldNothing bytes does
+      → ((m : List ℕ) → Answered call m [] (does t c m)) → ((m : List ℕ) → Ready t c m → Bytes bytes → BookUnchanged t c m (does t c m .memory))
+      → Shows t c call (described noArea true toldNothing bytes does)
+  unchanged-row call bytes does same answered unseen =
       record {
         answered = answered;
         judged = λ b m. tt;
-        book = λ b m a y z e. unchanged-book b m (does t c m .memory) (done (does t c m)) a (unseen m (a .ready) z);
+        book = λ b m a y z e. unchanged-book b m (does t c m .memory) (done (does t c m)) a (after m (a .ready) z) (unseen m (a .ready) z);
         frames = λ m ready y e. in-area-zero t c _ _;
       }
+    where
+      after : (m : List ℕ) → Ready t c m → Bytes bytes → Ready t c (does t c m .memory)
+      after m ready =
+          subst (λ (d : Description). Small (d .told) → Bytes (d .bytes) → Ready t c (d .does t c m .memory)) same (ready-after call m ready) tt
 
   -- ---- what a send and an initialise are done for
 
@@ -136,22 +145,22 @@ module _ (t : List ℕ) (c : Counts) where
             (initialise-book (ltb i (c .objects)) (eqb (objectRecord t (c .ipdus) i .kind) sending) _ b _ (refines-initialise t c b m a i v y));
         frames = λ m ready y e. in-area-zero t c _ _;
       }
-  shows (receive i) = unchanged-row (receive i) [] (λ t c. receiveIn t c i) (λ m. receive-answered t c m i) (λ m ready z. unchanged-receive t c m ready i)
-  shows (status i) = unchanged-row (status i) [] (λ t c. statusIn t c i) (λ m. status-answered t c m i) (λ m ready z. unchanged-status t c m ready i)
-  shows (marks i) = unchanged-row (marks i) [] (λ t c. marksIn c i) (λ m. marks-answered t c m i) (λ m ready z. unchanged-marks t c m ready i)
-  shows (clearMarks i) = unchanged-row (clearMarks i) [] (λ t c. clearMarksIn c i) (λ m. clear-marks-answered t c m i) (λ m ready z. unchanged-clear t c m ready i)
-  shows startPeriodic = unchanged-row startPeriodic [] (periodicIn true) (λ m. periodic-answered startPeriodic true m) (λ m ready z. unchanged-periodic t c m ready true)
-  shows stopPeriodic = unchanged-row stopPeriodic [] (periodicIn false) (λ m. periodic-answered stopPeriodic false m) (λ m ready z. unchanged-periodic t c m ready false)
+  shows (receive i) = unchanged-row (receive i) [] (λ t c. receiveIn t c i) refl (λ m. receive-answered t c m i) (λ m ready z. unchanged-receive t c m ready i)
+  shows (status i) = unchanged-row (status i) [] (λ t c. statusIn t c i) refl (λ m. status-answered t c m i) (λ m ready z. unchanged-status t c m ready i)
+  shows (marks i) = unchanged-row (marks i) [] (λ t c. marksIn c i) refl (λ m. marks-answered t c m i) (λ m ready z. unchanged-marks t c m ready i)
+  shows (clearMarks i) = unchanged-row (clearMarks i) [] (λ t c. clearMarksIn c i) refl (λ m. clear-marks-answered t c m i) (λ m ready z. unchanged-clear t c m ready i)
+  shows startPeriodic = unchanged-row startPeriodic [] (periodicIn true) refl (λ m. periodic-answered startPeriodic true m) (λ m ready z. unchanged-periodic t c m ready true)
+  shows stopPeriodic = unchanged-row stopPeriodic [] (periodicIn false) refl (λ m. periodic-answered stopPeriodic false m) (λ m ready z. unchanged-periodic t c m ready false)
   shows (indication k good bytes) =
-      unchanged-row (indication k good bytes) bytes (λ t c. indicationIn t c k good bytes) (λ m. indication-answered t c m k good bytes)
+      unchanged-row (indication k good bytes) bytes (λ t c. indicationIn t c k good bytes) refl (λ m. indication-answered t c m k good bytes)
       (λ m ready z. unchanged-indication t c m ready k good bytes z)
-  shows (confirm k good) = unchanged-row (confirm k good) [] (λ t c. confirmIn t c k good) (λ m. confirm-answered t c m k good) (λ m ready z. unchanged-confirm t c m ready k good)
+  shows (confirm k good) = unchanged-row (confirm k good) [] (λ t c. confirmIn t c k good) refl (λ m. confirm-answered t c m k good) (λ m ready z. unchanged-confirm t c m ready k good)
   shows (tick area) =
       record {
         answered = λ m. unfold tickIn in did (tick area) m area _ _ _;
         judged = λ b m. tt;
         book = λ b m a y z e.
-            unchanged-book b m (tickIn t c area m .memory) (done (tickIn t c area m)) a
+            unchanged-book b m (tickIn t c area m .memory) (done (tickIn t c area m)) a (ready-after (tick area) m (a .ready) y z)
             (unchanged-tick t c area m (a .ready) (leb-true areaSize (length area) (e refl)));
         frames = λ m ready y e. tick-in-area t c area m ready (leb-true areaSize (length area) (e refl));
       }

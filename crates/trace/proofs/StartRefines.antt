@@ -2,7 +2,7 @@
 -- Assumes nothing.
 use mathlib.Core.Bool.{true, false}
 use mathlib.Core.List.{List, []}
-use mathlib.Core.Logic.{_⊎_, inl, inr, ⊎-elim}
+use mathlib.Core.Logic.{inl, inr, ⊎-elim}
 use mathlib.Core.Path.{_≡_, refl, sym, ap, subst, _∙_}
 use Prim.Native.Nat.{ℕ, zero, suc, _+_, _/_, _%_, _^_, _≤_, _<_}
 use native.Mathlib.Nat.{zero-div, not-suc-le-zero}
@@ -29,10 +29,10 @@ use Rattle.message.specs.Objects.{object, Placed}
 use Rattle.message.proofs.ObjectsInRange.{right-placed}
 use Rattle.transmission.specs.Requests.{ipdu}
 use Rattle.calls.proofs.Records.{object-sends, object-receives}
+use Rattle.calls.proofs.SlotRows.{pack-row}
 use Rattle.layer.specs.Start.{blank, idle, firstTimer, startIpdu, unused, startAs, startObject, prepared, started}
+use Rattle.layer.proofs.StartInRange.{zero-at, begun, Set, set-more, all-set, initial-fits, queue-low, unused-fits, prepared-ready}
 use Rattle.trace.specs.Book.{Entry, enter, openEntry, opened, lastOf, bookBit}
-use Rattle.trace.proofs.SlotRows.{pack-row}
-use Rattle.trace.proofs.StartInRange.{zero-at, begun, Set, set-more, all-set, initial-fits, queue-low, unused-fits, prepared-ready}
 use Rattle.trace.proofs.Refines.{Refines, refines-running, pack-bits}
 
 -- ---- zeros

@@ -5,12 +5,11 @@ use mathlib.Core.Bool.{Bool, true, false, _&&_}
 use mathlib.Core.List.{List, [], _∷_, _++_}
 use mathlib.Core.Logic.{⊎-elim}
 use mathlib.Core.Path.{_≡_, refl, sym, ap, subst, _∙_}
-use Prim.Native.Nat.{ℕ, _+_, _≤_}
+use Prim.Native.Nat.{ℕ, _≤_}
 use native.Mathlib.Omega.{arith}
 use borrow.Author.Tests.{le-leb, leb-true, ne-eqb}
 use lib.Dec.{leb, eqb}
-use lib.ListN.{length, drop, length-append}
-use lib.Seq.{take-append-seam}
+use lib.ListN.{length, drop}
 use Rattle.memory.specs.Bytes.{Bytes}
 use Rattle.memory.specs.Search.{pick}
 use Rattle.memory.proofs.Tests.{true-or-false, true-not-false}
@@ -31,6 +30,8 @@ use Rattle.layer.specs.Admission.{workingMemory, admission, startAdmissionOf, s
 use Rattle.layer.specs.Start.{started, startIn}
 use Rattle.layer.specs.Step.{Call, start, Lent, noArea, requests, lentBytes, longEnough, Told, toldStart, toldStop, toldSend, toldInitialise, toldNothing, Description}
 use Rattle.layer.specs.Step.{describe, admissionFor, step, memoryAfter}
+use Rattle.layer.proofs.Admitted.{front-of}
+use Rattle.layer.proofs.ReadyKept.{working-ready}
 use Rattle.trace.specs.Book.{Book, opened, entered, next, advance, bookAfter}
 use Rattle.trace.specs.Demand3.{Typed, AllTyped, done, wordIn, wordOf, Judged}
 use Rattle.trace.proofs.Refines.{Refines}
@@ -68,16 +69,9 @@ pub record Follows (t : List ℕ) (c : Counts) (b : Book) (m : List ℕ) : Type 
   pub long : memorySize ≤ length m
   pub agrees : Refines t c b (workingMemory m)
 
--- the first 8,192 bytes and the rest
-pub front-of : (x m : List ℕ) → length x ≡ memorySize → workingMemory (x ++ drop memorySize m) ≡ x
-front-of x m e = rw e at (take-append-seam x (drop memorySize m))
-
 follows : (t : List ℕ) (c : Counts) (b : Book) (x m : List ℕ) → Refines t c b x → Follows t c b (x ++ drop memorySize m)
 follows t c b x m a =
-    record {
-      long = omega (arith, length-append x (drop memorySize m), a .ready .long);
-      agrees = rw (front-of x m (a .ready .long)) a;
-    }
+    record { long = working-ready t c x m (a .ready) .long; agrees = rw (front-of x m (a .ready .long)) a }
 
 -- stopped, as the book has it
 stopped-is : (s : Bool) (n : ℕ) → n ≡ pick s 0 1 → eqb n 0 ≡ s

@@ -10,31 +10,25 @@ use Rattle.memory.specs.Search.{pick}
 use Rattle.table.specs.declared.Counts.{Counts}
 use Rattle.table.specs.declared.Direction.{Direction}
 use Rattle.table.specs.declared.Direction.the-variants.{Send, Receive}
-use Rattle.table.specs.declared.Ipdu.{Ipdu}
 use Rattle.state.specs.declared.IpduState.{IpduState}
-use Rattle.state.specs.Layout.{ipduState, areaSize}
+use Rattle.state.specs.Layout.{ipduState, withIpduState, areaSize}
 use Rattle.state.specs.Ranges.{Ready}
+use Rattle.message.specs.Objects.{markSendError, markReceiveError}
 use Rattle.message.specs.Delivery.{markObjects}
 use Rattle.transmission.specs.Requests.{ipdu, afterRequest}
 use Rattle.transmission.specs.Ticks.{tickDelay, deadlineExpires, tickDeadline, tickPeriod, timerExpires, tickTimer}
-use Rattle.transmission.proofs.RequestsInRange.{SendKept, kept-offered, ready-send-kept, ReceiveKept, ready-receive, ready-receive-kept}
-use Rattle.transmission.proofs.TicksInRange.{kept-tick-delay, kept-tick-deadline, kept-tick-period, kept-tick-timer}
 use Rattle.calls.specs.declared.Answer.the-variants.{Done}
 use Rattle.calls.specs.Answers.{Outcome, valueOf}
-use Rattle.calls.specs.Tick.{TickResult, sendTick, receiveTick, tickAs, tickIpdu, tickTurn, ticks, tickIn}
+use Rattle.calls.specs.Tick.{TickResult, tickAs, tickIpdu, tickTurn, ticks, tickIn}
 use Rattle.calls.proofs.Records.{sends-one}
 use Rattle.calls.proofs.Ticks.{tick-word, word-more}
+use Rattle.calls.proofs.ReadyKept.{ready-due, ready-ticks}
 use Rattle.trace.specs.Demand3.{names}
-use Rattle.trace.proofs.BookUnchanged.{BookUnchanged, unchanged-pick, unchanged-refl, unchanged-then, unchanged-mark, unchanged-ipdu, unchanged-send}
+use Rattle.trace.proofs.BookUnchanged.{BookUnchanged, unchanged-refl, unchanged-then, unchanged-ipdu, unchanged-pick, unchanged-mark}
 use Rattle.trace.proofs.FramesInArea.{FramesInArea, in-area-none, in-area-same, Tried, quiet, tried-cases, tried-from, in-area-more}
 
 module _ (t : List ℕ) (c : Counts) where
   -- ---- one I-PDU
-
-  -- marks on its objects, where a time has run out
-  unchanged-due : (due : Bool) (k mark : ℕ) → mark ≤ 15 → (m : List ℕ) → Ready t c m → BookUnchanged t c m (pick due (markObjects t c k mark m) m)
-  unchanged-due due k mark few m ready =
-      unchanged-pick t c due m (markObjects t c k mark m) ready (λ e. unchanged-mark t c k mark few m ready)
 
   -- what one I-PDU's tick does: nothing that the book sees, and perhaps a request
   record Turn (k : ℕ) (area m : List ℕ) (o : Outcome) : Type 0 where
@@ -42,35 +36,32 @@ module _ (t : List ℕ) (c : Counts) where
     offer : Tried t c k area m o
 
   module _ (k : ℕ) (h : k < c .ipdus) (area m : List ℕ) (ready : Ready t c m) where
-    send-turn : ipdu t k .direction ≡ Send → (s : IpduState) → SendKept (ipdu t k) s → Turn k area m (sendTick t c k s area m)
-    send-turn d s kept =
-        let p : Ipdu = ipdu t k in
-        let n : List ℕ = pick (deadlineExpires s) (markObjects t c k 8 m) m in
-        let u = unchanged-due (deadlineExpires s) k 8 (omega arith) m ready in
-        let next : IpduState = tickPeriod p (tickDeadline s) in
-        let one = sends-one t k d in
-        record {
-          unseen =
-              unchanged-then t c m n _ u
-              (unchanged-send t c k h d (afterRequest p next) n (u .ready) (kept-offered p next (kept-tick-period p (tickDeadline s) (kept-tick-deadline p s kept))));
-          offer = tried-cases t c (ready .right) k h one next area n m (u .same .slot k h one);
-        }
+    -- marks on its objects, where a time has run out, and its row
+    due : (b : Bool) (mark : ℕ) → mark ≤ 15 → BookUnchanged t c m (pick b (markObjects t c k mark m) m)
+    due b mark few = unchanged-pick t c b m (markObjects t c k mark m) (λ e. unchanged-mark t c k mark few m ready)
 
-    receive-turn : ipdu t k .direction ≡ Receive → (s : IpduState) → ReceiveKept (ipdu t k) s → Turn k area m (receiveTick t c k s area m)
-    receive-turn d s kept =
-        let p : Ipdu = ipdu t k in
-        let n : List ℕ = pick (timerExpires s) (markObjects t c k 4 m) m in
-        let u = unchanged-due (timerExpires s) k 4 (omega arith) m ready in
-        record {
-          unseen =
-              unchanged-then t c m n _ u
-              (unchanged-ipdu t c k h (tickTimer p s) n (u .ready) (ready-receive t c n (u .ready) k h d (tickTimer p s) (kept-tick-timer p s kept)));
-          offer = quiet refl refl;
-        }
+    due-row : (b : Bool) (mark : ℕ) → mark ≤ 15 → (s : IpduState) → BookUnchanged t c m (withIpduState (pick b (markObjects t c k mark m) m) k s)
+    due-row b mark few s =
+        let n = pick b (markObjects t c k mark m) m in
+        unchanged-then t c m n (withIpduState n k s) (due b mark few) (unchanged-ipdu t c n (ready-due t c b k mark few m ready) k h s)
 
     turn-as : (d : Direction) → ipdu t k .direction ≡ d → Turn k area m (tickAs d t c k area m)
-    turn-as Send d = send-turn d (tickDelay (ipduState m k)) (kept-tick-delay (ipdu t k) (ipduState m k) (ready-send-kept t c m ready k h d))
-    turn-as Receive d = receive-turn d (ipduState m k) (ready-receive-kept t c m ready k h d)
+    turn-as Send d =
+        let p = ipdu t k in
+        let s = tickDelay (ipduState m k) in
+        let next = tickPeriod p (tickDeadline s) in
+        let one = sends-one t k d in
+        record {
+          unseen = due-row (deadlineExpires s) markSendError (omega arith) (afterRequest p next);
+          offer =
+              tried-cases t c (ready .right) k h one next area (pick (deadlineExpires s) (markObjects t c k markSendError m) m) m
+              (due (deadlineExpires s) markSendError (omega arith) .slot k h one);
+        }
+    turn-as Receive d =
+        record {
+          unseen = due-row (timerExpires (ipduState m k)) markReceiveError (omega arith) (tickTimer (ipdu t k) (ipduState m k));
+          offer = quiet refl refl;
+        }
 
   turn : (k : ℕ) → k < c .ipdus → (area m : List ℕ) → Ready t c m → Turn k area m (tickIpdu t c k area m)
   unfolding tickIpdu
@@ -86,12 +77,12 @@ module _ (t : List ℕ) (c : Counts) where
       below : (k : ℕ) → names (a .word) k → k < n
       hands : FramesInArea t c (a .word) (a .area) m
 
-    turned-next : (n : ℕ) → n < c .ipdus → (a : TickResult) → Turned n a → Turned (suc n) (tickTurn t c n a)
-    turned-next n h a x =
-        let y = turn n h (a .area) (a .memory) (x .unseen .ready) in
+    turned-next : (n : ℕ) → n < c .ipdus → (a : TickResult) → Ready t c (a .memory) → Turned n a → Turned (suc n) (tickTurn t c n a)
+    turned-next n h a r x =
+        let y = turn n h (a .area) (a .memory) r in
         let z =
         in-area-more t c (ready .right) n (a .word) h (a .area) m (x .long) (ready .long) (x .low) (x .below) (x .hands) (tickIpdu t c n (a .area) (a .memory))
-        (tried-from t c (ready .right) n h (a .area) (a .memory) m (tickIpdu t c n (a .area) (a .memory)) (x .unseen .same .slot n h) (y .offer)) in
+        (tried-from t c (ready .right) n h (a .area) (a .memory) m (tickIpdu t c n (a .area) (a .memory)) (x .unseen .slot n h) (y .offer)) in
         record {
           unseen = unchanged-then t c m (a .memory) (tickIpdu t c n (a .area) (a .memory) .memory) (x .unseen) (y .unseen);
           low =
@@ -108,13 +99,13 @@ module _ (t : List ℕ) (c : Counts) where
     turned : (n : ℕ) → n ≤ c .ipdus → Turned n (ticks t c n area m)
     turned zero h =
         record {
-          unseen = unchanged-refl t c m ready;
+          unseen = unchanged-refl t c m;
           low = omega arith;
           long = fits;
           below = λ k e. absurd (in-area-none k e);
           hands = record { named = λ k e. absurd (in-area-none k e); slot = λ k e. absurd (in-area-none k e) };
         }
-    turned (suc n) h = turned-next n h (ticks t c n area m) (turned n (omega (arith, h)))
+    turned (suc n) h = turned-next n h (ticks t c n area m) (ready-ticks t c n (omega (arith, h)) area m ready) (turned n (omega (arith, h)))
 
     pub unchanged-tick : BookUnchanged t c m (tickIn t c area m .memory)
     unfolding tickIn
@@ -124,7 +115,7 @@ module _ (t : List ℕ) (c : Counts) where
     unfolding tickIn
     tick-in-area =
         let x = turned (c .ipdus) (omega arith) in
-        in-area-same t c _ _ m _ (ready .right) (x .hands) (x .unseen .same .slot)
+        in-area-same t c _ _ m _ (ready .right) (x .hands) (x .unseen .slot)
 
   -- ---- what a tick answers and leaves in working memory does not depend on what the area held
 

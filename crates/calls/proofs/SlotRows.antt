@@ -1,61 +1,64 @@
 -- What packing and a request leave of working memory, and what a hand-over leaves of the area.
 -- Assumes nothing.
-use mathlib.Core.Bool.{true, false}
+use mathlib.Core.Bool.{false}
 use mathlib.Core.List.{List, _++_}
-use mathlib.Core.Logic.{inl, inr, ⊎-elim}
-use mathlib.Core.Path.{_≡_, sym, ap, _∙_}
+use mathlib.Core.Logic.{_⊎_, inl, inr}
+use mathlib.Core.Path.{_≡_, refl, sym, ap, _∙_}
 use Prim.Native.Nat.{ℕ, _+_, _-_, _*_, _≤_, _<_}
 use native.Mathlib.Omega.{arith}
 use lib.Dec.{eqb}
 use lib.ListN.{length, take, replicate, length-append, length-replicate}
 use lib.Seq.{take-append-seam}
-use Rattle.memory.specs.Bytes.{value, part, numberAt, replaced}
-use Rattle.memory.proofs.Parts.{part-apart, part-replaced, part-length, part-front, replaced-length}
-use Rattle.memory.proofs.Tests.{true-or-false}
+use Rattle.memory.specs.Bytes.{Bytes, value, part, numberAt, replaced}
+use Rattle.memory.proofs.Parts.{part-apart, part-replaced, part-length, part-front, replaced-length, replaced-bytes}
+use Rattle.memory.proofs.Search.{picked}
 use Rattle.bits.specs.Bits.{packed}
+use Rattle.bits.proofs.RoundTrip.{packed-bytes}
 use Rattle.table.specs.declared.Object.{Object}
 use Rattle.table.specs.Records.{mostIpdus, absent}
-use Rattle.state.specs.Layout.{areaSize, runningAt, objectRows, slotAt, ipduState, objectRow, objectState}
-use Rattle.state.specs.Updates.{withWanted}
+use Rattle.state.specs.Layout.{areaSize, runningAt, slots, objectRows, slotAt, objectRow, objectState}
 use Rattle.state.proofs.RowLaws.{ipdu-part, object-read}
 use Rattle.message.specs.Objects.{Placed, startBit, pack}
 use Rattle.message.proofs.ObjectsInRange.{pack-room, packed-slot-length}
-use Rattle.transmission.specs.Requests.{ipdu, afterRequest, copiedToArea}
+use Rattle.transmission.specs.Requests.{ipdu, copiedToArea}
+use Rattle.calls.specs.Answers.{Outcome}
 use Rattle.calls.specs.Calls.{wants, request}
 use Rattle.calls.proofs.Records.{wants-some}
 
 -- ---- packing
 
 module _ (o : Object) (v : ℕ) (m : List ℕ) (placed : Placed o m) where
-  -- packing changes nothing from the objects' rows on
-  pub pack-behind : (at w : ℕ) → objectRows ≤ at → part at w (pack o v m) ≡ part at w m
+  -- packing changes the slot alone
+  pub pack-apart : (at w : ℕ) → (eqb (o .ipdu .0) absent ≡ false → (at + w ≤ slotAt (o .ipdu .0)) ⊎ (slotAt (o .ipdu .0) + 8 ≤ at))
+      → part at w (pack o v m) ≡ part at w m
   unfolding pack
-  pack-behind at w high =
-      ⊎-elim
-      (λ (e : eqb (o .ipdu .0) absent ≡ true). rw e)
-      (λ (e : eqb (o .ipdu .0) absent ≡ false).
+  pack-apart at w apart =
+      picked (λ (l : List ℕ). part at w l ≡ part at w m) (eqb (o .ipdu .0) absent) _ _ (λ e. refl)
+      (λ e.
       let size = packed-slot-length o v m placed e in
-      rw e
-      (part-apart (slotAt (o .ipdu .0)) (packed (o .order) (startBit o) (o .size .0) v (part (slotAt (o .ipdu .0)) 8 m)) m at w
-      (omega (arith, size, pack-room o v m placed e)) (inr (omega (arith, size, placed .ipdu e, high)))))
-      (true-or-false (eqb (o .ipdu .0) absent))
+      part-apart (slotAt (o .ipdu .0)) _ m at w (omega (arith, size, pack-room o v m placed e)) (rw size (apart e)))
+
+  -- nothing from the objects' rows on
+  pub pack-behind : (at w : ℕ) → objectRows ≤ at → part at w (pack o v m) ≡ part at w m
+  pack-behind at w high = pack-apart at w (λ e. inr (omega (arith, placed .ipdu e, high)))
 
   -- and so no row of an object
   pub pack-row : (j : ℕ) → objectState (pack o v m) j ≡ objectState m j
   pack-row j = object-read (pack o v m) m j (λ p w b. pack-behind (objectRow j + p) w (omega arith))
 
-  -- packing leaves the byte of a stopped layer
+  -- nor anything before the slots
+  pub pack-part : (j w : ℕ) → j + w ≤ slots → part j w (pack o v m) ≡ part j w m
+  pack-part j w low = pack-apart j w (λ e. inl (omega (arith, low)))
+
+  -- as the byte of a stopped layer
   pub pack-front : runningAt (pack o v m) ≡ runningAt m
-  unfolding pack runningAt numberAt
-  pack-front =
-      ⊎-elim
-      (λ (e : eqb (o .ipdu .0) absent ≡ true). rw e)
-      (λ (e : eqb (o .ipdu .0) absent ≡ false).
-      rw e
-      (ap value
-      (part-apart (slotAt (o .ipdu .0)) (packed (o .order) (startBit o) (o .size .0) v (part (slotAt (o .ipdu .0)) 8 m)) m 0 1
-      (omega (arith, packed-slot-length o v m placed e, pack-room o v m placed e)) (inl (omega arith)))))
-      (true-or-false (eqb (o .ipdu .0) absent))
+  unfolding runningAt numberAt
+  pack-front = ap value (pack-part 0 1 (omega arith))
+
+  -- packing keeps bytes bytes
+  pub pack-bytes : Bytes m → Bytes (pack o v m)
+  unfolding pack
+  pack-bytes bs = picked Bytes (eqb (o .ipdu .0) absent) _ _ (λ e. bs) (λ e. replaced-bytes (slotAt (o .ipdu .0)) _ m (packed-bytes _ _ _ _ _) bs)
 
   -- the slot holds what was packed
   pub pack-holds : eqb (o .ipdu .0) absent ≡ false
@@ -75,14 +78,11 @@ pub request-behind : (t : List ℕ) (o : Object) (area m : List ℕ) → Placed 
     → part at w (request t o area m .memory) ≡ part at w m
 unfolding request
 request-behind t o area m placed at w high =
-    ⊎-elim
-    (λ (e : wants t o ≡ true).
+    picked (λ (x : Outcome). part at w (x .memory) ≡ part at w m) (wants t o) _ _
+    (λ e.
     let low = placed .ipdu (wants-some t o e) in
-    rw e
-    (ipdu-part m (o .ipdu .0) (afterRequest (ipdu t (o .ipdu .0)) (withWanted 1 (ipduState m (o .ipdu .0)))) (omega (arith, low, placed .long)) at w
-    (inr (omega (arith, low, high)))))
-    (λ (e : wants t o ≡ false). rw e)
-    (true-or-false (wants t o))
+    ipdu-part m (o .ipdu .0) _ (omega (arith, low, placed .long)) at w (inr (omega (arith, low, high))))
+    (λ e. refl)
 
 -- what is handed over: eight bytes of the slot's
 module _ (size k : ℕ) (m area : List ℕ) (few : size ≤ 8) (low : k < mostIpdus) (long : areaSize ≤ length area) (room : slotAt k + 8 ≤ length m) where

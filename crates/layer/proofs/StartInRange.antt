@@ -2,42 +2,40 @@
 -- Assumes nothing.
 use mathlib.Core.Bool.{Bool, true, false}
 use mathlib.Core.List.{List}
-use mathlib.Core.Logic.{_⊎_, inl, ⊎-elim}
+use mathlib.Core.Logic.{inl, ⊎-elim}
 use mathlib.Core.Path.{_≡_, refl, ap, _∙_}
-use Prim.Native.Nat.{ℕ, zero, suc, _+_, _-_, _^_, _≤_, _<_, max}
+use Prim.Native.Nat.{ℕ, zero, suc, _+_, _^_, _≤_, _<_, max}
 use native.Mathlib.Nat.{not-suc-le-zero}
 use native.Mathlib.Omega.{arith}
+use borrow.Author.Needs.{needs}
 use lib.Dec.{eqb}
 use lib.ListN.{length, getD, replicate, length-replicate, getD-replicate, List·getD-eq-default}
 use Rattle.memory.specs.Bytes.{Bytes, value, numberAt, part}
 use Rattle.memory.specs.Search.{pick, fold}
-use Rattle.memory.proofs.Parts.{number-one, number-lt, part-apart, replaced-bytes}
+use Rattle.memory.proofs.Parts.{number-one, number-lt}
 use Rattle.memory.proofs.Search.{below-suc}
-use Rattle.memory.proofs.Tests.{lt-or-le, true-or-false}
-use Rattle.bits.specs.Bits.{packed}
-use Rattle.bits.proofs.RoundTrip.{packed-bytes}
+use Rattle.memory.proofs.Tests.{lt-or-le}
 use Rattle.table.specs.declared.Counts.{Counts}
 use Rattle.table.specs.declared.Direction.{Direction}
 use Rattle.table.specs.declared.Direction.the-variants.{Send, Receive}
 use Rattle.table.specs.declared.Ipdu.{Ipdu}
-use Rattle.table.specs.declared.Object.{Object}
-use Rattle.table.specs.Records.{mostQueued, absent, objectRecord}
+use Rattle.table.specs.Records.{mostQueued, objectRecord}
 use Rattle.table.specs.Check.{depths}
 use Rattle.table.specs.Decode.{objectOf, Right}
 use Rattle.state.specs.declared.IpduState.{IpduState}
 use Rattle.state.specs.declared.ObjectState.{ObjectState}
-use Rattle.state.specs.Layout.{rowSize, slots, memorySize, runningAt, slotAt, ipduRow, ipduState, withIpduState, objectRow, objectState, withObjectState}
+use Rattle.state.specs.Layout.{rowSize, slots, memorySize, runningAt, ipduRow, ipduState, withIpduState, objectRow, objectState, withObjectState}
 use Rattle.state.specs.Ranges.{ipduInRange, objectInRange, Ready}
 use Rattle.state.proofs.RowLaws.{IpduFits, ObjectFits, ipdu-length, ipdu-part, ipdu-stored, ipdu-bytes, ipdu-other, ipdu-read, object-length, object-part, object-stored}
 use Rattle.state.proofs.RowLaws.{object-bytes, object-other, object-keeps-ipdus}
 use Rattle.state.proofs.Ready.{kept-object}
 use Rattle.state.proofs.Turns.{depth-sum}
-use Rattle.message.specs.Objects.{object, Placed, startBit, pack}
-use Rattle.message.proofs.ObjectsInRange.{right-placed, pack-length, pack-room, packed-slot-length}
+use Rattle.message.specs.Objects.{object, Placed, pack}
+use Rattle.message.proofs.ObjectsInRange.{right-placed, pack-length}
 use Rattle.transmission.specs.Requests.{ipdu}
 use Rattle.transmission.proofs.RequestsInRange.{Times, times, kept-send, kept-receive}
+use Rattle.calls.proofs.SlotRows.{pack-part, pack-bytes, pack-row}
 use Rattle.layer.specs.Start.{blank, idle, firstTimer, startIpdu, unused, startAs, startObject, prepared}
-use Rattle.trace.proofs.SlotRows.{pack-row}
 
 -- ---- rows after a start
 
@@ -47,72 +45,21 @@ timer-low false first next = omega arith
 
 module _ (p : Ipdu) where
   idle-range : (d : Direction) → p .direction ≡ d → ipduInRange p (idle (firstTimer d p)) ≡ true
-  idle-range Send e =
-      kept-send p (idle 0) e
-      (record {
-        requested = omega arith;
-        wanted = omega arith;
-        running = omega arith;
-        periodic = omega arith;
-        delay = omega arith;
-        deadline = omega arith;
-        countdown = omega arith;
-        timer = refl;
-      })
-  idle-range Receive e =
-      kept-receive p (idle (firstTimer Receive p)) e
-      (record {
-        requested = refl;
-        wanted = refl;
-        running = refl;
-        delay = refl;
-        deadline = refl;
-        countdown = refl;
-        timer = timer-low (eqb (p .«first_deadline») 0) (p .«first_deadline») (p .deadline);
-      })
+  idle-range Send e = kept-send p (idle 0) e (search needs)
+  idle-range Receive e = kept-receive p (idle (firstTimer Receive p)) e (search (needs, timer-low))
 
   timer-fits : Times p → (d : Direction) → firstTimer d p < 2 ^ 16
   timer-fits f Send = omega arith
   timer-fits f Receive = omega (arith, timer-low (eqb (p .«first_deadline») 0) (p .«first_deadline») (p .deadline), f .first, f .deadline)
 
 idle-fits : (n : ℕ) → n < 2 ^ 16 → IpduFits (idle n)
-idle-fits n h =
-    record {
-      requested = omega arith;
-      wanted = omega arith;
-      running = omega arith;
-      delay = omega arith;
-      deadline = omega arith;
-      countdown = omega arith;
-      timer = h;
-    }
+idle-fits n h = search needs
 
 pub unused-fits : (value old queue : ℕ) → value < 2 ^ 32 → old < 2 ^ 32 → queue ≤ mostQueued → ObjectFits (unused value old queue)
-unused-fits value old queue a b d =
-    record {
-      value = a;
-      old = b;
-      occurrence = omega arith;
-      marks = omega arith;
-      overflow = omega arith;
-      head = omega arith;
-      count = omega arith;
-      queue = omega (arith, d);
-    }
+unused-fits value old queue a b d = search needs
 
 unused-range : (depth value old queue : ℕ) → value < 2 ^ 32 → old < 2 ^ 32 → objectInRange depth queue (unused value old queue) ≡ true
-unused-range depth value old queue a b =
-    kept-object depth queue (unused value old queue)
-    (record {
-      value = a;
-      old = b;
-      occurrence = omega arith;
-      marks = omega arith;
-      overflow = omega arith;
-      count = omega arith;
-      head = omega arith;
-      queue = refl;
-    })
+unused-range depth value old queue a b = kept-object depth queue (unused value old queue) (search needs)
 
 -- ---- zeros
 
@@ -166,29 +113,6 @@ module _ (t : List ℕ) (c : Counts) (right : Right t c) (bt : Bytes t) where
                 (rw (ipdu-stored m n s room (idle-fits _ (timer-fits (ipdu t n) (times t n bt) (ipdu t n .direction)))) (idle-range (ipdu t n) (ipdu t n .direction) refl));
           }
 
-  -- packing leaves what is no slot
-  pack-part : (o : Object) (v : ℕ) (m : List ℕ) → Placed o m → (j w : ℕ) → j + w ≤ slots → part j w (pack o v m) ≡ part j w m
-  unfolding pack
-  pack-part o v m placed j w low =
-      ⊎-elim
-      (λ (e : eqb (o .ipdu .0) absent ≡ true). rw e)
-      (λ (e : eqb (o .ipdu .0) absent ≡ false).
-      rw e
-      (part-apart (slotAt (o .ipdu .0)) (packed (o .order) (startBit o) (o .size .0) v (part (slotAt (o .ipdu .0)) 8 m)) m j w
-      (omega (arith, packed-slot-length o v m placed e, pack-room o v m placed e)) (inl (omega (arith, low)))))
-      (true-or-false (eqb (o .ipdu .0) absent))
-
-  pack-bytes : (o : Object) (v : ℕ) (m : List ℕ) → Bytes m → Bytes (pack o v m)
-  unfolding pack
-  pack-bytes o v m bs =
-      ⊎-elim
-      (λ (e : eqb (o .ipdu .0) absent ≡ true). rw e bs)
-      (λ (e : eqb (o .ipdu .0) absent ≡ false).
-      rw e
-      (replaced-bytes (slotAt (o .ipdu .0)) (packed (o .order) (startBit o) (o .size .0) v (part (slotAt (o .ipdu .0)) 8 m)) m
-      (packed-bytes (o .order) (startBit o) (o .size .0) v (part (slotAt (o .ipdu .0)) 8 m)) bs))
-      (true-or-false (eqb (o .ipdu .0) absent))
-
   -- all I-PDUs and the objects below n are as a start leaves them
   pub record Set (n : ℕ) (m : List ℕ) : Type 0 where
     pub long : length m ≡ memorySize
@@ -239,7 +163,7 @@ module _ (t : List ℕ) (c : Counts) (right : Right t c) (bt : Bytes t) where
         let v : ℕ = object t c n .initial in
         record {
           long = pack-length (object t c n) v l there ∙ x .long;
-          bytes = pack-bytes (object t c n) v l (x .bytes);
+          bytes = pack-bytes (object t c n) v l there (x .bytes);
           running = ap value (pack-part (object t c n) v l there 0 1 (omega arith)) ∙ x .running;
           ipdus = λ k few.
               rw (ipdu-read (pack (object t c n) v l) l k (λ o w e. pack-part (object t c n) v l there (ipduRow k + o) w (omega (arith, e, few, right .shape .ipdus))))
