@@ -31,7 +31,7 @@ use Rattle.message.proofs.RingPlaces.{around-lt}
 use Rattle.message.proofs.ObjectsInRange.{kept-old, kept-value, kept-marks, kept-queue, ready-pack, ready-frame, ready-mark}
 use Rattle.transmission.specs.Requests.{ipdu, afterRequest, confirmed, setPeriods}
 use Rattle.transmission.specs.Ticks.{tickDelay, deadlineExpires, tickDeadline, tickPeriod, timerExpires, tickTimer}
-use Rattle.transmission.proofs.RequestsInRange.{kept-wanted, kept-offered, kept-confirmed, ready-send-kept, ready-receive-kept, ready-periods, ready-timer}
+use Rattle.transmission.proofs.RequestsInRange.{ready-send-row, ready-receive-row, kept-wanted, kept-offered, kept-confirmed, ready-send-kept, ready-receive-kept, ready-periods, ready-timer}
 use Rattle.transmission.proofs.TicksInRange.{kept-tick-delay, kept-tick-deadline, kept-tick-period, kept-tick-timer}
 use Rattle.calls.specs.Answers.{Outcome}
 use Rattle.calls.specs.Calls.{isObject, isIpdu, stopIn, wants, request, sendIn, initialiseIn, receiveIn, statusIn, marksIn, clearMarksIn, periodicIn, indicationIn, confirmIn}
@@ -66,7 +66,7 @@ module _ (t : List ℕ) (c : Counts) where
       let k = objectRecord t (c .ipdus) i .ipdu in
       let there = usable t c (ready .right) i (object-there t c sending i is) .ipdu (wants-some t (object t c i) w) in
       let d = ipdu-sends t k (there .1 ∙ object-kind t c sending i is) in
-      Rattle.transmission.proofs.RequestsInRange.ready-send t c m ready k (there .0) d (afterRequest (ipdu t k) (withWanted 1 (ipduState m k)))
+      ready-send-row t c m ready k (there .0) d (afterRequest (ipdu t k) (withWanted 1 (ipduState m k)))
       (kept-offered (ipdu t k) (withWanted 1 (ipduState m k)) (kept-wanted (ipdu t k) (ipduState m k) (ready-send-kept t c m ready k (there .0) d))))
       ready
 
@@ -181,7 +181,7 @@ module _ (t : List ℕ) (c : Counts) where
     ready-confirmed k good e =
         let low = ipdu-there t c sending k e in
         let d = ipdu-sends t k (ipdu-direction t c sending k e) in
-        Rattle.transmission.proofs.RequestsInRange.ready-send t c m ready k low d (confirmed good (ipdu t k) (ipduState m k))
+        ready-send-row t c m ready k low d (confirmed good (ipdu t k) (ipduState m k))
         (kept-confirmed good (ipdu t k) (ipduState m k) (ready-send-kept t c m ready k low d))
 
     pub ready-confirm : (k : ℕ) (good : Bool) → Ready t c (confirmIn t c k good m .memory)
@@ -202,13 +202,13 @@ module _ (t : List ℕ) (c : Counts) where
         let p = ipdu t k in
         let s = tickDelay (ipduState m k) in
         let kept = kept-tick-delay p (ipduState m k) (ready-send-kept t c m ready k h d) in
-        Rattle.transmission.proofs.RequestsInRange.ready-send t c (pick (deadlineExpires s) (markObjects t c k markSendError m) m)
+        ready-send-row t c (pick (deadlineExpires s) (markObjects t c k markSendError m) m)
         (ready-due (deadlineExpires s) k markSendError (omega arith) m ready) k h d (afterRequest p (tickPeriod p (tickDeadline s)))
         (kept-offered p (tickPeriod p (tickDeadline s)) (kept-tick-period p (tickDeadline s) (kept-tick-deadline p s kept)))
     ready-tick-as Receive d =
         let p = ipdu t k in
         let s = ipduState m k in
-        Rattle.transmission.proofs.RequestsInRange.ready-receive t c (pick (timerExpires s) (markObjects t c k markReceiveError m) m)
+        ready-receive-row t c (pick (timerExpires s) (markObjects t c k markReceiveError m) m)
         (ready-due (timerExpires s) k markReceiveError (omega arith) m ready) k h d (tickTimer p s) (kept-tick-timer p s (ready-receive-kept t c m ready k h d))
 
     pub ready-tick-ipdu : Ready t c (tickIpdu t c k area m .memory)

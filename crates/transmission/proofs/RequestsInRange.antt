@@ -203,9 +203,9 @@ kept-period false p s some k =
     }
 
 -- a row of a send I-PDU set to numbers in range
-pub ready-send : (t : List ℕ) (c : Counts) (m : List ℕ) → Ready t c m → (k : ℕ) → k < c .ipdus → ipdu t k .direction ≡ Send → (s : IpduState)
+pub ready-send-row : (t : List ℕ) (c : Counts) (m : List ℕ) → Ready t c m → (k : ℕ) → k < c .ipdus → ipdu t k .direction ≡ Send → (s : IpduState)
     → SendKept (ipdu t k) s → Ready t c (withIpduState m k s)
-ready-send t c m ready k h d s kept =
+ready-send-row t c m ready k h d s kept =
     ready-ipdu t c m ready k h s (send-fits (ipdu t k) s (times t k (ready .tables)) kept) (kept-send (ipdu t k) s d kept)
 
 pub ready-send-kept : (t : List ℕ) (c : Counts) (m : List ℕ) → Ready t c m → (k : ℕ) → k < c .ipdus → ipdu t k .direction ≡ Send
@@ -273,7 +273,7 @@ ready-period-turn t c on k below m ready =
     let facts = periods (ipduRecord t k) (ready .right .ipdus k below) e in
     let d : ipdu t k .direction ≡ Send = rw (facts .sent) in
     rw e
-    (ready-send t c m ready k below d (periodSet on (ipdu t k) (ipduState m k))
+    (ready-send-row t c m ready k below d (periodSet on (ipdu t k) (ipduState m k))
     (kept-period on (ipdu t k) (ipduState m k) (omega (arith, facts .some)) (ready-send-kept t c m ready k below d))))
     (λ (e : hasPeriod (ipdu t k .mode) ≡ false). rw e ready)
     (true-or-false (hasPeriod (ipdu t k .mode)))
@@ -326,9 +326,9 @@ kept-receive p s d k =
     (le-leb (s .timer) (max (p .«first_deadline») (p .deadline)) (k .timer))
 
 -- a row of a receive I-PDU set to numbers in range
-pub ready-receive : (t : List ℕ) (c : Counts) (m : List ℕ) → Ready t c m → (k : ℕ) → k < c .ipdus → ipdu t k .direction ≡ Receive
+pub ready-receive-row : (t : List ℕ) (c : Counts) (m : List ℕ) → Ready t c m → (k : ℕ) → k < c .ipdus → ipdu t k .direction ≡ Receive
     → (s : IpduState) → ReceiveKept (ipdu t k) s → Ready t c (withIpduState m k s)
-ready-receive t c m ready k h d s kept =
+ready-receive-row t c m ready k h d s kept =
     let f = times t k (ready .tables) in
     ready-ipdu t c m ready k h s
     (record {
@@ -351,7 +351,7 @@ pub ready-timer : (t : List ℕ) (c : Counts) (m : List ℕ) → Ready t c m →
 unfolding timerSet
 ready-timer t c m ready k h d =
     let kept = ready-receive-kept t c m ready k h d in
-    ready-receive t c m ready k h d _
+    ready-receive-row t c m ready k h d _
     (record {
       requested = kept .requested;
       wanted = kept .wanted;
