@@ -21,7 +21,7 @@ confirm-spec =
     (λ c κs. (search (needs, found-ipdu-number), search needs))
     (λ c κs. search needs)
     (λ c κs.
-    let start = c .before .before .before .before .before .before .before .before .before .before .before .before .before .before .before in
-    search (needs, start .pre))
+    let at-start = c .before .before .before .before .before .before .before .before .before .before .before .before .before .before .before in
+    search (needs, at-start .pre))
     (λ c. search needs)
     (λ c. search (needs, confirms)))

@@ -18,8 +18,8 @@ good-indication-spec =
     (λ c. search needs)
     (λ c κs. search (needs, frame-fits))
     (λ c κs.
-    let told = c .before .before .before .before .before .before .before .before .before in
-    let known : Bytes (told .before .before .before .args .bytes .now) = λ i. told .shared-slice-known2 .given i .fits in
+    let at-told = c .before .before .before .before .before .before .before .before .before in
+    let known : Bytes (at-told .before .before .before .args .bytes .now) = λ i. at-told .shared-slice-known2 .given i .fits in
     (search (needs, copied-ready), search needs))
     (λ c κs. search needs)
     (λ c. search needs)

@@ -15,25 +15,25 @@ tick-send-spec =
     (λ c κs. search needs)
     (λ c κs. search needs)
     (λ c κs.
-    let start = c .before .before .before .before .before .before .before .before .before .before .before .before .before .before .before in
-    search (needs, start .pre))
+    let at-start = c .before .before .before .before .before .before .before .before .before .before .before .before .before .before .before in
+    search (needs, at-start .pre))
     (λ c. search needs)
     (λ c. search needs)
     (λ c.
-    let ends = c .before .before .before .before in
-    let counted = ends .before .before .before in
-    let marked = counted .before .before .before .before in
-    let read = marked .before .before .before .before in
-    let start = read .before .before .before .before .before in
+    let at-ends = c .before .before .before .before in
+    let at-counted = at-ends .before .before .before in
+    let at-marked = at-counted .before .before .before .before in
+    let at-read = at-marked .before .before .before .before in
+    let at-start = at-read .before .before .before .before .before in
     rw (
-      ends .try-request .ensures .0,
-      ends .try-request .ensures .1 .0,
-      ends .try-request .ensures .1 .1,
-      marked .mark-where .ensures,
-      counted .tick-period .ensures,
-      counted .before .tick-deadline .ensures,
-      marked .before .deadline-expires .ensures,
-      marked .before .before .before .tick-delay .ensures,
-      read .ipdu-state .ensures,
-      start .pre .1 .4,
+      at-ends .try-request .ensures .0,
+      at-ends .try-request .ensures .1 .0,
+      at-ends .try-request .ensures .1 .1,
+      at-marked .mark-where .ensures,
+      at-counted .tick-period .ensures,
+      at-counted .before .tick-deadline .ensures,
+      at-marked .before .deadline-expires .ensures,
+      at-marked .before .before .before .tick-delay .ensures,
+      at-read .ipdu-state .ensures,
+      at-start .pre .1 .4,
     )))

@@ -21,10 +21,10 @@ admit-spec =
     (λ c. search needs)
     (λ c. search needs)
     (λ c.
-    let known = c .before .before .before .before .before in
-    let start = known .before .before in
-    let table : Bytes (start .args .t .now) = λ i. known .before .shared-slice-known .given i .fits in
-    let memory : Bytes (start .args .m .now) = λ i. known .shared-slice-known2 .given i .fits in
+    let at-known = c .before .before .before .before .before in
+    let at-start = at-known .before .before in
+    let table : Bytes (at-start .args .t .now) = λ i. at-known .before .shared-slice-known .given i .fits in
+    let memory : Bytes (at-start .args .m .now) = λ i. at-known .shared-slice-known2 .given i .fits in
     search (needs, accepted-admits))
     (λ c. admits-refused (rw (sym (c .before .before .check .ensures) ∙ c .enum-told .given .1)))
     (λ c. admits-refused (rw (sym (c .before .before .check .ensures) ∙ c .enum-told2 .given .1)))

@@ -31,11 +31,11 @@ start-ipdus-spec =
     (λ c. search needs)
     (λ c. search needs)
     (λ c.
-    let timed = c .before .before .before .before .before in
-    let turn = timed .before .before .before .loop in (
+    let at-timed = c .before .before .before .before .before in
+    let turn = at-timed .before .before .before .loop in (
       search needs,
       ipdus-more _ _ _ _ _ _ _ _ (c .before .before .set-ipdu-state .ensures) (c .before .before .before .idle .ensures)
-          (timed .first-timer .ensures) (timed .before .decode-ipdu .ensures) (turn .inv .1),
+          (at-timed .first-timer .ensures) (at-timed .before .decode-ipdu .ensures) (turn .inv .1),
       search needs,
     ))
     (λ c. search needs)

@@ -16,23 +16,23 @@ add-write16 c =
 returns : tie.Need-returns
 unfolding withObjectState
 returns c =
-    let queue = c .before .before in
-    let count = queue .before .before .before .before in
-    let head = count .before .before .before .before in
-    let overflow = head .before .before .before .before in
-    let marks = overflow .before .before .before .before in
-    let occurrence = marks .before .before .before .before in
-    let old = occurrence .before .before .before .before .before in
-    let value = old .before .before .before .before in
+    let at-queue = c .before .before in
+    let at-count = at-queue .before .before .before .before in
+    let at-head = at-count .before .before .before .before in
+    let at-overflow = at-head .before .before .before .before in
+    let at-marks = at-overflow .before .before .before .before in
+    let at-occurrence = at-marks .before .before .before .before in
+    let at-old = at-occurrence .before .before .before .before .before in
+    let at-value = at-old .before .before .before .before in
     rw (
-      queue .write16 .ensures,
-      count .write85 .ensures,
-      head .write84 .ensures,
-      overflow .write83 .ensures,
-      marks .write82 .ensures,
-      occurrence .write8 .ensures,
-      old .write322 .ensures,
-      value .write32 .ensures,
+      at-queue .write16 .ensures,
+      at-count .write85 .ensures,
+      at-head .write84 .ensures,
+      at-overflow .write83 .ensures,
+      at-marks .write82 .ensures,
+      at-occurrence .write8 .ensures,
+      at-old .write322 .ensures,
+      at-value .write32 .ensures,
       add-zero,
     )
 

@@ -30,6 +30,6 @@ set-periods-spec =
     (λ c. (search needs, simp unary-clauses cc, search needs))
     (λ c. search needs)
     (λ c.
-    let start = c .before .before .before .before in
-    let all : c .before .loop .k ≡ start .args .c .ipdus = search needs in
+    let at-start = c .before .before .before .before in
+    let all : c .before .loop .k ≡ at-start .args .c .ipdus = search needs in
     rw all at (c .before .loop .inv .1)))

@@ -21,12 +21,12 @@ copy-to-area-spec =
     (λ c κs. search needs)
     (λ c. search needs)
     (λ c.
-    let read = c .before .before .before .before .before in
-    let start = read .before .before .before .before in
+    let at-read = c .before .before .before .before .before in
+    let at-start = at-read .before .before .before .before in
     rw (
       c .before .before .write64 .ensures,
       c .before .before .before .low-bytes .ensures,
-      read .read64 .ensures,
-      bytesOf-front (start .args .size .0) (slotAt (start .args .number .0)) (start .args .m .now)
-          (λ i. read .before .before .before .shared-slice-known .given i .fits) (start .pre .3) (omega (arith, start .pre .0, start .pre .1)),
+      at-read .read64 .ensures,
+      bytesOf-front (at-start .args .size .0) (slotAt (at-start .args .number .0)) (at-start .args .m .now)
+          (λ i. at-read .before .before .before .shared-slice-known .given i .fits) (at-start .pre .3) (omega (arith, at-start .pre .0, at-start .pre .1)),
     )))

@@ -17,8 +17,8 @@ try-request-spec =
     (λ c κs. search needs)
     (λ c. search needs)
     (λ c.
-    let asked = c .before .before .before .before in
-    let stays = sym (asked .before .is-due .ensures) ∙ not-true _ (asked .if1 .taken) in
+    let at-asked = c .before .before .before .before in
+    let stays = sym (at-asked .before .is-due .ensures) ∙ not-true _ (at-asked .if1 .taken) in
     (rw stays, (rw (stays, c .before .before .set-ipdu-state .ensures), rw stays)))
     (λ c κs. search needs)
     (λ c κs. search needs)
@@ -28,10 +28,10 @@ try-request-spec =
     (λ c. search needs)
     (λ c. search needs)
     (λ c.
-    let stored = c .before .before .before in
-    let handed = stored .before .before .before .before .before in
-    let asked = handed .before .before .before in
-    let goes = sym (asked .before .is-due .ensures) ∙ not-false _ (asked .if1 .left) in (
+    let at-stored = c .before .before .before in
+    let at-handed = at-stored .before .before .before .before .before in
+    let at-asked = at-handed .before .before .before in
+    let goes = sym (at-asked .before .is-due .ensures) ∙ not-false _ (at-asked .if1 .left) in (
       rw (goes, c .power-of-two .ensures),
-      (rw (goes, stored .set-ipdu-state2 .ensures, stored .before .request-made .ensures), rw (goes, handed .copy-to-area .ensures)),
+      (rw (goes, at-stored .set-ipdu-state2 .ensures, at-stored .before .request-made .ensures), rw (goes, at-handed .copy-to-area .ensures)),
     )))
