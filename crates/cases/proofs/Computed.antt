@@ -68,10 +68,10 @@ module _ (t m : List ℕ) (long : length m ≡ memorySize) where
 
 -- ---- lists of calls
 
-abbrev stepFast : List ℕ → Call → List ℕ → Outcome
+abbrev pub stepFast : List ℕ → Call → List ℕ → Outcome
 stepFast t call m = pick (eqb (length m) memorySize) (stepExact t call m) (step t call m)
 
-step-fast : (t : List ℕ) (call : Call) (m : List ℕ) → step t call m ≡ stepFast t call m
+pub step-fast : (t : List ℕ) (call : Call) (m : List ℕ) → step t call m ≡ stepFast t call m
 step-fast t call m =
     ⊎-elim
     (λ (e : eqb (length m) memorySize ≡ true). rw e (step-exact t m (eqb-true (length m) memorySize e) call))

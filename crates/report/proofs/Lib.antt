@@ -1,0 +1,4 @@
+pub mod Puts
+pub mod HexTexts
+pub mod RequestTexts
+pub mod StatusLines

@@ -1,0 +1,37 @@
+-- `report::numbers::put_decimal`: a number of one digit is that digit; any other is its tenth's digits, then the last. The measure is the number.
+-- Assumes nothing.
+use Prim.Native.Nat.{ℕ, _<_}
+use borrow.Author.Needs.{needs}
+use borrow.Fn.Kinds.{In}
+use borrow.Fn.PlainCycle.{Measures, is, falls, and}
+use Rattle.report.proofs.Puts.{put-decimal-one, put-decimal-more, room-for-one, room-for-tenth, room-for-last}
+use Rattle.report.proofs.numbers.put_decimal.Reads as put-decimal
+use Rattle.report.proofs.numbers.put_decimal.Kinds as put-decimal-kinds
+use Rattle.report.proofs.numbers.+put_decimal.Lts-put_decimal as put-decimal-lts
+use Rattle.report.proofs.numbers.put_digit.Reads as put-digit-reads
+use Rattle.report.proofs.numbers.+put_decimal.{statement}
+use Rattle.report.proofs.numbers.+put_decimal.Tie.{close}
+
+abbrev μ-put-decimal : Measures 1 put-decimal-kinds.ps ℕ
+μ-put-decimal κs a = a .1 .1 .0
+
+-- what it is given at the measure t, and what its call of itself asks below t
+abbrev put-decimal-at : ℕ → In 1 put-decimal-kinds.ps
+put-decimal-at t = and 1 put-decimal-kinds.ps (is 1 put-decimal-kinds.ps μ-put-decimal t) put-decimal.Pre
+
+abbrev put-decimal-below : ℕ → In 1 put-decimal-kinds.ps
+put-decimal-below t = and 1 put-decimal-kinds.ps (falls 1 put-decimal-kinds.ps _<_ μ-put-decimal t) put-decimal.Pre
+
+pub +put-decimal-spec : {M : Type 1} → statement M
++put-decimal-spec =
+    close μ-put-decimal
+    (λ t. put-decimal-lts.spec (put-digit-reads.Asked, put-digit-reads.Learnt, put-decimal-below t, put-decimal.Post) (put-decimal-at t) put-decimal.Post
+    (λ c. search needs)
+    (λ c κs. (search needs, search (needs, room-for-one)))
+    (λ c. search needs)
+    (λ c. search (needs, put-decimal-one))
+    (λ c κs. (search needs, search (needs, room-for-tenth)))
+    (λ c. search needs)
+    (λ c κs. (search needs, search (needs, room-for-last)))
+    (λ c. search needs)
+    (λ c. search (needs, put-decimal-more)))

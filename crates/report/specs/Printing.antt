@@ -1,0 +1,102 @@
+-- W-201: the line that is printed for a call: the status; ` val N` after a receive that gave 0 or 3, or marks that gave 0; ` req K` and
+-- the I-PDU's L bytes in upper-case hex for each request, rising. Assumes nothing.
+use mathlib.Core.Bool.{Bool, true, false, _||_}
+use mathlib.Core.List.{List, [], _∷_, _++_}
+use mathlib.Core.Path.{_≡_}
+use Prim.Native.Nat.{ℕ, zero, suc, _+_, _*_, _/_, _%_, _^_, _≤_, _<_}
+use lib.Dec.{eqb}
+use lib.ListN.{length}
+use lib.Seq.{sets}
+use Rattle.memory.specs.Bytes.{part}
+use Rattle.memory.specs.Search.{pick}
+use Rattle.table.specs.Records.{mostIpdus, ipduBase, counts, ipduRecord}
+use Rattle.calls.specs.declared.Answer.{Answer}
+use Rattle.calls.specs.Answers.{numberOf, valueOf}
+use Rattle.script.specs.declared.Ask.{Ask}
+use Rattle.script.specs.declared.Ask.the-variants.{Receive, Status, Marks, ClearMarks}
+use Rattle.script.specs.declared.Command.{Command}
+use Rattle.script.specs.declared.Command.the-variants.{Start, Stop, Send, Initialise, Object, Periodic, Indication, Confirm, Tick}
+use Rattle.report.specs.declared.Shown.{Shown}
+use Rattle.report.specs.declared.Shown.the-variants.{StatusAlone, Value, Requests}
+use Rattle.script.specs.Characters.{codes}
+use Rattle.script.specs.Text.{blank, lineFeed, digitOf, numberField, hex}
+
+-- ---- a send and a tick are lent a request area
+
+abbrev pub lends : Command → Bool
+lends Start = false
+lends Stop = false
+lends (Send i v) = true
+lends (Initialise i v) = false
+lends (Object ask i) = false
+lends (Periodic on) = false
+lends (Indication k good) = false
+lends (Confirm k good) = false
+lends Tick = true
+
+-- ---- what is printed behind the status
+
+abbrev pub shownValue : Bool → Answer → Shown
+shownValue gives a = pick gives (Value (valueOf a)) StatusAlone
+
+abbrev pub shownAsk : Ask → Answer → Shown
+shownAsk Receive a = shownValue (eqb (numberOf a) 0 || eqb (numberOf a) 3) a
+shownAsk Status a = StatusAlone
+shownAsk Marks a = shownValue (eqb (numberOf a) 0) a
+shownAsk ClearMarks a = StatusAlone
+
+abbrev pub shown : Command → Answer → Shown
+shown Start a = StatusAlone
+shown Stop a = StatusAlone
+shown (Send i v) a = Requests (valueOf a)
+shown (Initialise i v) a = StatusAlone
+shown (Object ask i) a = shownAsk ask a
+shown (Periodic on) a = StatusAlone
+shown (Indication k good) a = StatusAlone
+shown (Confirm k good) a = StatusAlone
+shown Tick a = Requests (valueOf a)
+
+abbrev pub valName : List ℕ
+valName = codes " val"
+
+abbrev pub reqName : List ℕ
+reqName = codes " req"
+
+-- I-PDU k: its number and the first L bytes of its slot in the request area
+unfoldable pub requestText : List ℕ → ℕ → List ℕ → List ℕ
+requestText t k area = reqName ++ numberField k ++ blank ∷ hex (part (8 * k) (ipduRecord t k .length) area)
+
+-- of the I-PDUs below n, those that the word names
+unfoldable pub requestTexts : List ℕ → ℕ → ℕ → List ℕ → List ℕ
+requestTexts t zero word area = []
+requestTexts t (suc k) word area = requestTexts t k word area ++ pick (eqb (word / 2 ^ k % 2) 1) (requestText t k area) []
+
+abbrev pub shownText : List ℕ → List ℕ → Shown → List ℕ
+shownText t area StatusAlone = []
+shownText t area (Value v) = valName ++ numberField v
+shownText t area (Requests word) = requestTexts t (counts t .ipdus) word area
+
+-- ---- the line, over the request area that the call left
+
+unfoldable pub answerLine : List ℕ → Command → Answer → List ℕ → List ℕ
+answerLine t command a area = digitOf (numberOf a) ∷ shownText t area (shown command a) ++ lineFeed ∷ []
+
+-- `9 N`, where line N can't be read
+unfoldable pub refusalLine : ℕ → List ℕ
+refusalLine n = digitOf 9 ∷ numberField n ++ lineFeed ∷ []
+
+-- ---- how a function puts a text into `before` from place `at` on, with the place behind it
+
+pub record Put (at : ℕ) (text before after : List ℕ) (end : ℕ) : Type 0 where
+  pub stored : after ≡ sets before at text
+  pub behind : end ≡ at + length text
+
+-- the longest line that is printed
+abbrev pub longestLine : ℕ
+longestLine = 770
+
+-- I-PDU k is in the table, and its length is one that a slot holds
+pub record InTable (t : List ℕ) (k : ℕ) : Type 0 where
+  pub number : k < mostIpdus
+  pub inside : ipduBase + 16 * k + 16 ≤ length t
+  pub few : ipduRecord t k .length ≤ 8

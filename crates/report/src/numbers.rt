@@ -1,0 +1,49 @@
+// Numbers in decimals, and the end of a line.
+ghost use mathlib.Core.List.{[], _∷_};
+ghost use mathlib.Core.Path.{_≡_};
+ghost use Prim.Native.Nat.{_+_, _≤_, _<_};
+ghost use lib.ListN.{length};
+ghost use Rattle.script.specs.Text.{digitOf, decimal, numberField, lineFeed};
+ghost use Rattle.report.specs.Printing.{Put};
+
+pub(crate) const BLANK: u8 = 32;
+
+const LINE_FEED: u8 = 10;
+
+// A blank and a number.
+pub(crate) fn put_number(out: &mut [u8], at: usize, n: u64) -> usize
+    requires { ⌜ at + 1 + length (decimal n) ≤ length (now out) ⌝ }
+    ensures { λ r. ⌜ Put at (numberField n) (now (out .entry)) (now (out .exit)) r ⌝ }
+{
+    out[at] = BLANK;
+    put_decimal(out, at + 1, n)
+}
+
+// A number in decimals with no leading zeros.
+fn put_decimal(out: &mut [u8], at: usize, n: u64) -> usize
+    requires { ⌜ at + length (decimal n) ≤ length (now out) ⌝ }
+    ensures { λ r. ⌜ Put at (decimal n) (now (out .entry)) (now (out .exit)) r ⌝ }
+{
+    if n < 10 {
+        return put_digit(out, at, n as u32);
+    }
+    let last = put_decimal(out, at, n / 10);
+    put_digit(out, last, (n % 10) as u32)
+}
+
+pub(crate) fn put_digit(out: &mut [u8], at: usize, d: u32) -> usize
+    requires { ⌜ d < 10 ⌝ }
+    requires { ⌜ at < length (now out) ⌝ }
+    ensures { λ r. ⌜ Put at (digitOf d ∷ []) (now (out .entry)) (now (out .exit)) r ⌝ }
+{
+    out[at] = 48 + d as u8;
+    at + 1
+}
+
+pub(crate) fn put_line_feed(out: &mut [u8], at: usize) -> usize
+    requires { ⌜ at < length (now out) ⌝ }
+    ensures { λ r. ⌜ Put at (lineFeed ∷ []) (now (out .entry)) (now (out .exit)) r ⌝ }
+{
+    out[at] = LINE_FEED;
+    at + 1
+}

@@ -1,0 +1,12 @@
+pub mod LinesLaws
+pub mod Decimals
+pub mod CharacterLists
+pub mod BytesDown
+pub mod NameNumbers
+pub mod HexNumbers
+pub mod ReadingCases
+pub mod LineReads
+pub mod Numerals
+pub mod HexText
+pub mod FieldsText
+pub mod TextReads

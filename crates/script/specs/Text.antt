@@ -1,0 +1,130 @@
+-- W-201: the line of each command, without its line feed. Characters are ASCII codes.
+-- Assumes nothing.
+use mathlib.Core.Bool.{Bool, true, false}
+use mathlib.Core.List.{List, [], _∷_, _++_}
+use Prim.Native.Nat.{ℕ, zero, suc, _+_, _/_, _%_}
+use lib.Dec.{ltb}
+use Rattle.memory.specs.Search.{pick}
+use Rattle.script.specs.Characters.{codes}
+use Rattle.script.specs.declared.Ask.{Ask}
+use Rattle.script.specs.declared.Ask.the-variants.{Receive, Status, Marks, ClearMarks}
+use Rattle.script.specs.declared.Command.{Command}
+use Rattle.script.specs.declared.Command.the-variants.{Start, Stop, Send, Initialise, Object, Periodic, Indication, Confirm, Tick}
+
+abbrev pub blank : ℕ
+blank = 32
+
+abbrev pub lineFeed : ℕ
+lineFeed = 10
+
+-- ---- decimals with no leading zeros
+
+abbrev pub digitOf : ℕ → ℕ
+digitOf d = 48 + d
+
+-- with at most k digits
+abbrev pub decimalDigits : ℕ → ℕ → List ℕ
+decimalDigits zero n = []
+decimalDigits (suc k) n = pick (ltb n 10) (digitOf n ∷ []) (decimalDigits k (n / 10) ++ digitOf (n % 10) ∷ [])
+
+-- of a number below 2 ^ 64
+unfoldable pub decimal : ℕ → List ℕ
+decimal n = decimalDigits 20 n
+
+-- one blank before each
+abbrev pub numberField : ℕ → List ℕ
+numberField n = blank ∷ decimal n
+
+abbrev pub numberFields : List ℕ → List ℕ
+numberFields [] = []
+numberFields (n ∷ ns) = numberField n ++ numberFields ns
+
+-- ---- bytes in upper-case hex; with no bytes the field and its blank are absent
+
+abbrev pub hexDigitOf : ℕ → ℕ
+hexDigitOf d = pick (ltb d 10) (48 + d) (55 + d)
+
+abbrev pub hex : List ℕ → List ℕ
+hex [] = []
+hex (b ∷ bs) = hexDigitOf (b / 16) ∷ hexDigitOf (b % 16) ∷ hex bs
+
+abbrev pub hexField : List ℕ → List ℕ
+hexField [] = []
+hexField (b ∷ bs) = blank ∷ hex (b ∷ bs)
+
+-- ---- names
+
+abbrev pub startName : List ℕ
+startName = codes "start"
+
+abbrev pub stopName : List ℕ
+stopName = codes "stop"
+
+abbrev pub sendName : List ℕ
+sendName = codes "send"
+
+abbrev pub initialiseName : List ℕ
+initialiseName = codes "initialise"
+
+abbrev pub receiveName : List ℕ
+receiveName = codes "receive"
+
+abbrev pub statusName : List ℕ
+statusName = codes "status"
+
+abbrev pub marksName : List ℕ
+marksName = codes "marks"
+
+abbrev pub clearMarksName : List ℕ
+clearMarksName = codes "clear_marks"
+
+abbrev pub startPeriodicName : List ℕ
+startPeriodicName = codes "start_periodic"
+
+abbrev pub stopPeriodicName : List ℕ
+stopPeriodicName = codes "stop_periodic"
+
+abbrev pub indicationName : List ℕ
+indicationName = codes "indication"
+
+abbrev pub confirmName : List ℕ
+confirmName = codes "confirm"
+
+abbrev pub tickName : List ℕ
+tickName = codes "tick"
+
+abbrev pub nameOf : Command → List ℕ
+nameOf Start = startName
+nameOf Stop = stopName
+nameOf (Send i v) = sendName
+nameOf (Initialise i v) = initialiseName
+nameOf (Object Receive i) = receiveName
+nameOf (Object Status i) = statusName
+nameOf (Object Marks i) = marksName
+nameOf (Object ClearMarks i) = clearMarksName
+nameOf (Periodic true) = startPeriodicName
+nameOf (Periodic false) = stopPeriodicName
+nameOf (Indication k good) = indicationName
+nameOf (Confirm k good) = confirmName
+nameOf Tick = tickName
+
+-- ---- numbers: good is 1, not good 0
+
+abbrev pub goodNumber : Bool → ℕ
+goodNumber good = pick good 1 0
+
+abbrev pub numbersOf : Command → List ℕ
+numbersOf Start = []
+numbersOf Stop = []
+numbersOf (Send i v) = i .0 ∷ v ∷ []
+numbersOf (Initialise i v) = i .0 ∷ v ∷ []
+numbersOf (Object ask i) = i .0 ∷ []
+numbersOf (Periodic on) = []
+numbersOf (Indication k good) = k .0 ∷ goodNumber good ∷ []
+numbersOf (Confirm k good) = k .0 ∷ goodNumber good ∷ []
+numbersOf Tick = []
+
+-- ---- the line: the name, then the numbers, then the bytes of an indication
+
+abbrev pub text : Command → List ℕ → List ℕ
+text command bytes = nameOf command ++ numberFields (numbersOf command) ++ hexField bytes

@@ -1,0 +1,2 @@
+pub mod ComputedScripts
+pub mod ScriptCases

@@ -1,0 +1,1 @@
+// Proved cases of scripts: definitions in specs/, proofs in proofs/, no code.

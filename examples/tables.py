@@ -1,0 +1,100 @@
+#!/usr/bin/env python3
+"""The tables of the example scripts, in words. `python3 examples/tables.py` writes each examples/NAME.table anew.
+
+docs/TABLE.md says what the numbers mean. I-PDUs and objects are numbered from 0, in the order in which they stand here.
+"""
+import os
+import struct
+
+SEND, RECEIVE, NONE = 1, 2, 255
+DIRECT, PERIODIC, MIXED = 0, 1, 2
+LITTLE, BIG = 0, 1
+TRIGGERED, PENDING = 0, 1
+
+# Filters: the number, then the constants that it needs.
+ALWAYS = (0,)
+DIFFERS = (5,)
+
+
+def between(least, greatest):
+    return (8, least, greatest)
+
+
+def one_in(period, offset):
+    return (14, period, offset)
+
+
+def sent_ipdu(length, mode=DIRECT, period=0, offset=0, delay=0, deadline=10):
+    return struct.pack("<4B6H", SEND, length, mode, 0, period, offset, delay, deadline, 0, 0)
+
+
+def received_ipdu(length, deadline=0, first_deadline=0):
+    return struct.pack("<4B6H", RECEIVE, length, 0, 0, 0, 0, 0, deadline, first_deadline, 0)
+
+
+def record(kind, ipdu, sender, start, bits, order, transfer, depth, rule, initial):
+    number, first, second = (rule + (0, 0))[:3]
+    return struct.pack("<12B5I", kind, ipdu, sender, start, bits, order, transfer, depth, number, 0, 0, 0, initial, first, second, 0, 0)
+
+
+def sent(ipdu, start, bits, order=LITTLE, transfer=TRIGGERED, rule=ALWAYS, initial=0):
+    return record(SEND, ipdu, NONE, start, bits, order, transfer, 0, rule, initial)
+
+
+def received(ipdu, start, bits, order=LITTLE, depth=0, rule=ALWAYS, initial=0):
+    return record(RECEIVE, ipdu, NONE, start, bits, order, TRIGGERED, depth, rule, initial)
+
+
+def inside(sender, depth=0, rule=ALWAYS, initial=0):
+    """A receive object that gets what the object `sender` sends."""
+    return record(RECEIVE, NONE, sender, 0, 32, LITTLE, TRIGGERED, depth, rule, initial)
+
+
+def table(ipdus, objects):
+    objects_at = 16 + 16 * len(ipdus)
+    total = objects_at + 32 * len(objects)
+    return struct.pack("<5H6x", len(ipdus), len(objects), 16, objects_at, total) + b"".join(ipdus + objects)
+
+
+def one(ipdu, message_object):
+    return table([ipdu], [message_object])
+
+
+TABLES = {
+    # Case 12's table: 12 bits from bit 13 on; equal values are dropped; after a good confirm 3 ticks of delay.
+    "request": one(sent_ipdu(4, delay=3), sent(0, start=13, bits=12, rule=DIFFERS)),
+    "case06": one(sent_ipdu(4), sent(0, start=13, bits=12, rule=DIFFERS)),
+    "case07": one(sent_ipdu(4), sent(0, start=13, bits=12, rule=one_in(3, 1))),
+    "case08": one(received_ipdu(1), received(0, start=0, bits=8, depth=2)),
+    "case09": one(sent_ipdu(4, delay=3), sent(0, start=13, bits=12)),
+    "case10": one(sent_ipdu(4, deadline=2), sent(0, start=13, bits=12)),
+    "case11": one(sent_ipdu(4, mode=PERIODIC, period=4, offset=2, deadline=20), sent(0, start=13, bits=12)),
+    # A climate van. Humidity is in permille; both sensors drop equal values.
+    "van": table(
+        [
+            sent_ipdu(4, delay=3, deadline=5),                          # 0: humidity of two sensors
+            sent_ipdu(3, mode=MIXED, period=4, offset=2, deadline=10),  # 1: the door and a case reading
+            received_ipdu(4, deadline=5, first_deadline=8),             # 2: what the case's own controller says
+        ],
+        [
+            sent(0, start=0, bits=10, rule=DIFFERS, initial=450),                                # 0: front humidity
+            sent(0, start=24, bits=10, order=BIG, rule=DIFFERS, initial=450),                    # 1: rear humidity
+            sent(1, start=7, bits=1),                                                            # 2: is the door open?
+            sent(1, start=8, bits=12, transfer=PENDING, rule=between(100, 3000), initial=200),   # 3: case reading
+            received(2, start=0, bits=16, depth=2),                                              # 4: a queue of case readings
+            received(2, start=24, bits=10, order=BIG, rule=between(300, 700), initial=500),      # 5: the humidity that is asked for
+            inside(sender=0, initial=450),                                                       # 6: a display of the front humidity
+        ],
+    ),
+}
+
+
+def main():
+    folder = os.path.dirname(os.path.abspath(__file__))
+    for name, data in TABLES.items():
+        with open(os.path.join(folder, name + ".table"), "wb") as file:
+            file.write(data)
+
+
+if __name__ == "__main__":
+    main()
