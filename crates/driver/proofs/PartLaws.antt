@@ -19,6 +19,7 @@ use Rattle.script.specs.Text.{lineFeed}
 use Rattle.script.specs.Reader.{next}
 use Rattle.report.specs.Printing.{Put, refusalLine, longestLine}
 use Rattle.report.proofs.Puts.{put-none}
+use Rattle.report.proofs.StatusLines.{refusal-length}
 use Rattle.driver.specs.declared.Progress.{Progress}
 use Rattle.driver.specs.Script.{begun}
 use Rattle.driver.specs.Parts.{Board, board, nextLine, withReader, advance, advanced, isEmpty, endText}
@@ -101,3 +102,6 @@ module _ (p : Progress) (out : List ℕ) where
       → {after : List ℕ} {end : ℕ} → Put 0 (refusalLine (p .line)) out after end
       → Put 0 (pick (leb longestLine (length out)) (endText p) []) out after end
   finish-refused long same some put = rw (le-leb longestLine (length out) long, ← same, some) put
+
+  pub finish-room : longestLine ≤ length out → {after : List ℕ} {end : ℕ} → Put 0 (refusalLine (p .line)) out after end → end ≤ length out
+  finish-room long put = omega (arith, put .behind, refusal-length (p .line))

@@ -9,7 +9,7 @@ use table::Counts;
 ghost use mathlib.Core.Bool.{not, _&&_};
 ghost use mathlib.Core.List.{[]};
 ghost use mathlib.Core.Path.{_≡_};
-ghost use Prim.Native.Nat.{_+_};
+ghost use Prim.Native.Nat.{_+_, _≤_};
 ghost use lib.Dec.{leb};
 ghost use lib.ListN.{length};
 ghost use Rattle.memory.specs.Search.{pick};
@@ -150,6 +150,7 @@ fn with_reader(run: Run, reader: Reader) -> Run
 // The end of the script: a last line without its line feed can't be read. `out` needs `LONGEST_LINE` bytes; with fewer, nothing is put.
 pub fn finish(out: &mut [u8], progress: Progress) -> usize
     ensures { λ r. ⌜ Put 0 (pick (leb longestLine (length (now (out .entry)))) (endText progress) []) (now (out .entry)) (now (out .exit)) r ⌝ }
+    ensures { λ r. ⌜ r ≤ length (now (out .entry)) ⌝ }
 {
     if out.len() < LONGEST_LINE {
         return 0;
