@@ -3,6 +3,7 @@ pub mod PartLaws
 pub mod LineLaws
 pub mod PartRuns
 pub mod LongFrames
+pub mod Examined
 pub mod Performed
 pub mod GivenLines
 pub mod Prints

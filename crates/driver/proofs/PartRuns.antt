@@ -17,7 +17,7 @@ use Rattle.script.specs.declared.Reader.{Reader}
 use Rattle.script.specs.Text.{lineFeed}
 use Rattle.report.specs.Printing.{Put, longestLine}
 use Rattle.report.proofs.Puts.{put-append, put-length}
-use Rattle.driver.specs.declared.Ground.the-variants.{Unknown}
+use Rattle.driver.specs.declared.Ground.{Ground}
 use Rattle.driver.specs.declared.Part.{Part}
 use Rattle.driver.specs.declared.Progress.{Progress}
 use Rattle.driver.specs.declared.Reached.{Reached}
@@ -78,12 +78,12 @@ module _ (t part : List ℕ) (p : Progress) (m₀ area₀ out₀ : List ℕ) whe
     pub inside : at ≤ length part
     pub stands : OnBoard t out₀ (reached at) run m area out
 
-  pub so-far-none : SoFar 0 (runAs p Unknown 0) m₀ area₀ out₀
+  pub so-far-none : {ground : Ground} → Holds ground t m₀ → SoFar 0 (runAs p ground 0) m₀ area₀ out₀
   unfolding advanced
-  so-far-none =
+  so-far-none known =
       record {
         inside = omega arith;
-        stands = record { kept = refl; memory = refl; lent = refl; put = record { stored = refl; behind = refl }; fits = omega arith; known = tt };
+        stands = record { kept = refl; memory = refl; lent = refl; put = record { stored = refl; behind = refl }; fits = omega arith; known = known };
       }
 
   module _ {at : ℕ} {run : Run} {m area out : List ℕ} (s : SoFar at run m area out) (going : run .progress .ended ≡ false) where

@@ -1,5 +1,6 @@
 // Runs the lines of a script (W-201) over a table and lent memory, part by part, and puts what is printed into a lent buffer. Table and
 // memory are checked once in a part, then at no further call.
+mod examining;
 mod lines;
 mod performing;
 
@@ -86,7 +87,7 @@ pub fn run_some(
     let mut at = 0;
     let mut run = Run {
         progress: progress,
-        ground: Ground::Unknown,
+        ground: examining::examine(t, m),
         written: 0,
     };
     while (at < n) & goes_on(run, room) {

@@ -18,10 +18,17 @@ Inv-loop t m₀ area₀ part out₀ n room at₀ run₀ m area out at run =
 abbrev μ-loop : tie.MeasureT-loop
 μ-loop t m₀ area₀ part out₀ n room at₀ run₀ m area out at run = n - at
 
+abbrev start-of : tie.At-loop Inv-loop μ-loop → tie.Start Inv-loop μ-loop
+start-of c =
+    let at-lent = c .before .before .before in
+    let at-known = at-lent .before .before .before in
+    at-known .before .before
+
 loop-holds : tie.Need-loop-holds Inv-loop μ-loop
 loop-holds c =
-    let at-start = c .before .before .before .before .before .args in
-    (so-far-none (at-start .t .now) (at-start .part .now) (at-start .progress) (at-start .m .now) (at-start .area .now) (at-start .out .now), refl, refl, refl)
+    let at-lent = c .before .before .before in
+    let s = at-lent .before .before .before .before .args in
+    (so-far-none (s .t .now) (s .part .now) (s .progress) (s .m .now) (s .area .now) (s .out .now) (c .examine .ensures), refl, refl, refl)
 
 scan-requires : tie.Need-scan-requires Inv-loop μ-loop
 scan-requires c κs = c .before .before .before .loop .inv .0 .inside
@@ -32,11 +39,6 @@ abbrev loop-of : tie.After-with-reader Inv-loop μ-loop → tie.At-loop Inv-loop
 loop-of c =
     let at-test = c .before .before .before in
     at-test .before .before
-
-abbrev start-of : tie.At-loop Inv-loop μ-loop → tie.Start Inv-loop μ-loop
-start-of c =
-    let at-known = c .before .before .before in
-    at-known .before .before .before
 
 goes : (c : tie.After-with-reader Inv-loop μ-loop) →
     let s = start-of (loop-of c) .args in
@@ -118,6 +120,7 @@ run-some-spec =
     (tie.spec
     Inv-loop
     μ-loop
+    (λ c κs. search needs)
     loop-holds
     (λ c κs. search needs)
     scan-requires

@@ -1,0 +1,11 @@
+-- `driver::examining::examine`: the verdict on the table tells whether memory is looked at.
+-- Assumes nothing.
+use borrow.Author.Needs.{needs}
+use Rattle.driver.proofs.Examined.{verdict-accepts}
+use Rattle.driver.proofs.examining.examine.Statement.{statement}
+use Rattle.driver.proofs.examining.examine.Tie as tie
+
+pub examine-spec : {M : Type 1} → statement M
+examine-spec =
+    tie.close
+    (tie.spec (λ c κs. search needs) (λ c. search needs) (λ c κs. search (needs, verdict-accepts)) (λ c. search needs) (λ c. search needs))
