@@ -8,4 +8,4 @@ program=target/bin/drive
 out=$(mktemp -d)
 trap 'rm -rf "$out"' EXIT
 rustc -O --edition 2021 --cfg own -o "$out/drive" tests/drive/main.rs
-"$out/drive" "$program" "$out" "$@"
+timeout 900 "$out/drive" "$program" "$out" "$@"

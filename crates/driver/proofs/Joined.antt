@@ -13,7 +13,7 @@ use Rattle.script.specs.Reader.{next, commandOf, frameOf, frameBytes}
 use Rattle.report.specs.Printing.{answerLine, refusalLine}
 use Rattle.driver.specs.declared.Progress.{Progress}
 use Rattle.driver.specs.Script.{effect}
-use Rattle.driver.specs.Parts.{Board, board, answered, refused, ended, lineEnded, withReader, advance, advanced, progressOf, resumed}
+use Rattle.driver.specs.Parts.{Board, board, answered, refused, byReading, lineEnded, withReader, advance, advanced, progressOf, resumed}
 
 -- ---- one part after another
 
@@ -42,7 +42,7 @@ abbrev pub printedBefore : List ℕ → Board → Board
 printedBefore text b = board (b .reader) (b .line) (b .ended) (b .memory) (b .area) (text ++ b .text)
 
 module _ (t text : List ℕ) where
-  ended-before : (r : Reading) (bytes : List ℕ) (b : Board) → ended t r bytes (printedBefore text b) ≡ printedBefore text (ended t r bytes b)
+  ended-before : (r : Reading) (bytes : List ℕ) (b : Board) → byReading t r bytes (printedBefore text b) ≡ printedBefore text (byReading t r bytes b)
   ended-before (Readable command) bytes b =
       let o = effect t command bytes (b .area) (b .memory) in
       rw (append-assoc text (b .text) (answerLine t command (o .answer) (o .area)))
@@ -58,8 +58,8 @@ module _ (t text : List ℕ) where
     where
       go : (e l : Bool)
           → pick e (printedBefore text b)
-          (pick l (ended t (commandOf (b .reader)) (frameBytes (frameOf (b .reader))) (printedBefore text b)) (withReader (printedBefore text b) (next (b .reader) x)))
-          ≡ printedBefore text (pick e b (pick l (ended t (commandOf (b .reader)) (frameBytes (frameOf (b .reader))) b) (withReader b (next (b .reader) x))))
+          (pick l (byReading t (commandOf (b .reader)) (frameBytes (frameOf (b .reader))) (printedBefore text b)) (withReader (printedBefore text b) (next (b .reader) x)))
+          ≡ printedBefore text (pick e b (pick l (byReading t (commandOf (b .reader)) (frameBytes (frameOf (b .reader))) b) (withReader b (next (b .reader) x))))
       go true l = refl
       go false true = ended-before (commandOf (b .reader)) (frameBytes (frameOf (b .reader))) b
       go false false = refl

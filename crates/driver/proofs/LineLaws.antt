@@ -18,7 +18,8 @@ use Rattle.report.proofs.StatusLines.{refusal-length}
 use Rattle.driver.specs.declared.Ground.{Ground}
 use Rattle.driver.specs.declared.Progress.{Progress}
 use Rattle.driver.specs.Script.{effect}
-use Rattle.driver.specs.Parts.{nextLine, lineEnded, progressAs, Holds, Gave, runAs, LineRun}
+use Rattle.driver.specs.Parts.{nextLine, lineEnded, progressAs}
+use Rattle.driver.specs.Turns.{Holds, Gave, runAs, LineRun}
 
 -- ---- the bytes of an indication, spelt at the start of a buffer
 

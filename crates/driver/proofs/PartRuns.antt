@@ -22,7 +22,8 @@ use Rattle.driver.specs.declared.Part.{Part}
 use Rattle.driver.specs.declared.Progress.{Progress}
 use Rattle.driver.specs.declared.Reached.{Reached}
 use Rattle.driver.specs.declared.Run.{Run}
-use Rattle.driver.specs.Parts.{Board, lineEnded, withReader, advance, advanced, progressAs, progressOf, resumed, Ran, Holds, runAs, runWithReader, Scanned, LineRun}
+use Rattle.driver.specs.Parts.{Board, lineEnded, withReader, advance, advanced, progressAs, progressOf, resumed, Ran}
+use Rattle.driver.specs.Turns.{Holds, runAs, runWithReader, Scanned, LineRun}
 use Rattle.driver.proofs.Joined.{advanced-append, advanced-one, advanced-ended, printedBefore, line-ended-before, resumed-before}
 
 -- a run, with memory, area and buffer, stands where the board says

@@ -48,7 +48,7 @@ use Rattle.report.proofs.StatusLines.{status-line, start-line}
 use Rattle.driver.specs.declared.Ground.{Ground}
 use Rattle.driver.specs.declared.Ground.the-variants.{Known, Unknown}
 use Rattle.driver.specs.Script.{callOf, settled, effect, own}
-use Rattle.driver.specs.Parts.{Checked, Holds, isStart}
+use Rattle.driver.specs.Turns.{Checked, Holds, isStart}
 
 -- ---- a command by its place among the variants
 

@@ -24,7 +24,7 @@ use Rattle.script.specs.Reader.{next, nextFrom, fresh, commandOf, frameOf, fram
 use Rattle.script.proofs.LineReads.{command-reads, frame-reads, frame-too-long, begun-reads}
 use Rattle.report.specs.Printing.{answerLine, refusalLine}
 use Rattle.driver.specs.Script.{effect, ScriptLine, readable, unreadable, lineAs, lineOf, unended, linesFrom, Printed, print, printedBy}
-use Rattle.driver.specs.Parts.{Board, board, nextLine, answered, refused, ended, lineEnded, withReader, advance, advanced, isEmpty, endText}
+use Rattle.driver.specs.Parts.{Board, board, nextLine, answered, refused, byReading, lineEnded, withReader, advance, advanced, isEmpty, endText}
 use Rattle.driver.specs.Parts.{firstProgress, progressOf, resumed}
 use Rattle.driver.proofs.Joined.{advanced-ended}
 use Rattle.driver.proofs.LongFrames.{effect-long}
@@ -122,7 +122,7 @@ module _ (t : List ℕ) where
       → ((m area before : List ℕ) → Agrees (advanced t (board fresh (n + 1) false m area before) s) before (print t (n + 1) rest m area))
       → (r : Reading) → readLine l ≡ r →
       let b = board (nextFrom fresh l) n false m area before in
-      Agrees (advanced t (ended t r (frameBytes (frameOf (nextFrom fresh l))) b) s) before (print t n (lineAs r (bytesIn (fieldsOf l)) ∷ rest) m area)
+      Agrees (advanced t (byReading t r (frameBytes (frameOf (nextFrom fresh l))) b) s) before (print t n (lineAs r (bytesIn (fieldsOf l)) ∷ rest) m area)
   line-ended l n low m area before s rest ih (Readable c) e =
       let o = effect t c (bytesIn (fieldsOf l)) area m in
       rw (frames t l c e area m, lt-ltb n (2 ^ 64 - 1) low)

@@ -1,3 +1,4 @@
 pub mod Script
 pub mod ScriptCalls
 pub mod Parts
+pub mod Turns

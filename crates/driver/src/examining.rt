@@ -6,7 +6,7 @@ use table::Verdict;
 ghost use mathlib.Core.Path.{_≡_};
 ghost use Rattle.table.specs.declared.Verdict.the-variants.{Accepted};
 ghost use Rattle.table.specs.Check.{check};
-ghost use Rattle.driver.specs.Parts.{Holds};
+ghost use Rattle.driver.specs.Turns.{Holds};
 
 // Whether the table is right, and the memory long enough with every stored number in its range.
 pub(crate) fn examine(t: &[u8], m: &[u8]) -> Ground

@@ -16,7 +16,8 @@ ghost use lib.ListN.{length};
 ghost use Rattle.memory.specs.Search.{pick};
 ghost use Rattle.report.specs.Printing.{Put, longestLine};
 ghost use Rattle.driver.specs.Script.{begun};
-ghost use Rattle.driver.specs.Parts.{firstProgress, endText, runWithReader, Ran};
+ghost use Rattle.driver.specs.Parts.{firstProgress, endText, Ran};
+ghost use Rattle.driver.specs.Turns.{runWithReader};
 
 // What is kept between two parts of a script: the line that is being read, its number, and whether a line could not be read.
 pub struct Progress {

@@ -14,7 +14,8 @@ ghost use Prim.Native.Nat.{_+_, _≤_};
 ghost use lib.ListN.{length};
 ghost use Rattle.script.specs.Reader.{frameBytes};
 ghost use Rattle.report.specs.Printing.{longestLine};
-ghost use Rattle.driver.specs.Parts.{Holds, EffectGave, isEmpty, nextLine, Scanned, LineRun};
+ghost use Rattle.driver.specs.Parts.{isEmpty, nextLine};
+ghost use Rattle.driver.specs.Turns.{Holds, EffectGave, Scanned, LineRun};
 
 const LINE_FEED: u8 = 10;
 
