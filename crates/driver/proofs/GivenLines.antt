@@ -22,7 +22,7 @@ use Rattle.report.specs.Printing.{lends, answerLine, Put, longestLine}
 use Rattle.report.proofs.StatusLines.{answer-length}
 use Rattle.driver.specs.declared.Ground.{Ground}
 use Rattle.driver.specs.declared.Ground.the-variants.{Known}
-use Rattle.driver.specs.Script.{effect, own}
+use Rattle.script_run.specs.Script.{effect, own}
 use Rattle.driver.specs.Turns.{Checked, Holds, isStart, Gave}
 use Rattle.driver.proofs.Performed.{longFor, effect-refused, effect-admitted, effect-start, fits-area, refused-line, started-line, checked-after, start-holds}
 

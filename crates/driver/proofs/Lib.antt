@@ -1,11 +1,6 @@
-pub mod Joined
 pub mod PartLaws
 pub mod LineLaws
 pub mod PartRuns
-pub mod LongFrames
 pub mod Examined
 pub mod Performed
 pub mod GivenLines
-pub mod Prints
-pub mod Runs
-pub mod Begun

@@ -16,9 +16,9 @@ use Rattle.script.proofs.BytesDown.{down-length}
 use Rattle.report.specs.Printing.{Put, refusalLine, longestLine}
 use Rattle.report.proofs.StatusLines.{refusal-length}
 use Rattle.driver.specs.declared.Ground.{Ground}
-use Rattle.driver.specs.declared.Progress.{Progress}
-use Rattle.driver.specs.Script.{effect}
-use Rattle.driver.specs.Parts.{nextLine, lineEnded, progressAs}
+use Rattle.script.specs.declared.Progress.{Progress}
+use Rattle.script_run.specs.Script.{effect}
+use Rattle.script_run.specs.Parts.{nextLine, lineEnded, progressAs}
 use Rattle.driver.specs.Turns.{Holds, Gave, runAs, LineRun}
 
 -- ---- the bytes of an indication, spelt at the start of a buffer

@@ -20,10 +20,10 @@ use Rattle.script.specs.Reader.{next}
 use Rattle.report.specs.Printing.{Put, refusalLine, longestLine}
 use Rattle.report.proofs.Puts.{put-none}
 use Rattle.report.proofs.StatusLines.{refusal-length}
-use Rattle.driver.specs.declared.Progress.{Progress}
-use Rattle.driver.specs.Script.{begun}
-use Rattle.driver.specs.Parts.{Board, board, nextLine, withReader, advance, advanced, isEmpty, endText}
-use Rattle.driver.proofs.Joined.{advanced-one}
+use Rattle.script.specs.declared.Progress.{Progress}
+use Rattle.script_run.specs.Script.{begun}
+use Rattle.script_run.specs.Parts.{Board, board, nextLine, withReader, advance, advanced, isEmpty, endText}
+use Rattle.script_run.proofs.Joined.{advanced-one}
 
 -- ---- a start, then a stop
 

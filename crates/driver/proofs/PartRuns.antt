@@ -19,12 +19,13 @@ use Rattle.report.specs.Printing.{Put, longestLine}
 use Rattle.report.proofs.Puts.{put-append, put-length}
 use Rattle.driver.specs.declared.Ground.{Ground}
 use Rattle.driver.specs.declared.Part.{Part}
-use Rattle.driver.specs.declared.Progress.{Progress}
+use Rattle.script.specs.declared.Progress.{Progress}
 use Rattle.driver.specs.declared.Reached.{Reached}
 use Rattle.driver.specs.declared.Run.{Run}
-use Rattle.driver.specs.Parts.{Board, lineEnded, withReader, advance, advanced, progressAs, progressOf, resumed, Ran}
+use Rattle.script_run.specs.Parts.{Board, lineEnded, withReader, advance, advanced, progressAs, progressOf, resumed}
+use Rattle.driver.specs.Turns.{Ran}
 use Rattle.driver.specs.Turns.{Holds, runAs, runWithReader, Scanned, LineRun}
-use Rattle.driver.proofs.Joined.{advanced-append, advanced-one, advanced-ended, printedBefore, line-ended-before, resumed-before}
+use Rattle.script_run.proofs.Joined.{advanced-append, advanced-one, advanced-ended, printedBefore, line-ended-before, resumed-before}
 
 -- a run, with memory, area and buffer, stands where the board says
 pub record OnBoard (t out₀ : List ℕ) (b : Board) (run : Run) (m area out : List ℕ) : Type 0 where

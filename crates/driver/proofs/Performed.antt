@@ -47,7 +47,7 @@ use Rattle.report.specs.Printing.{lends, answerLine}
 use Rattle.report.proofs.StatusLines.{status-line, start-line}
 use Rattle.driver.specs.declared.Ground.{Ground}
 use Rattle.driver.specs.declared.Ground.the-variants.{Known, Unknown}
-use Rattle.driver.specs.Script.{callOf, settled, effect, own}
+use Rattle.script_run.specs.Script.{callOf, settled, effect, own}
 use Rattle.driver.specs.Turns.{Checked, Holds, isStart}
 
 -- ---- a command by its place among the variants

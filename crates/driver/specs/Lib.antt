@@ -1,4 +1,1 @@
-pub mod Script
-pub mod ScriptCalls
-pub mod Parts
 pub mod Turns

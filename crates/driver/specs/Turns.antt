@@ -1,10 +1,10 @@
--- How the functions that run a part are held to the board of Parts: what is known of table and memory, what a line's bytes do, what its
--- call gave, and its line feed. Assumes nothing.
+-- How the functions that run a part of a script are held to the board of script_run/Parts: the part, what is known of table and memory,
+-- what a line's bytes do, what its call gave, and its line feed. Assumes nothing.
 use mathlib.Core.Bool.{Bool, true, false}
 use mathlib.Core.List.{List}
 use mathlib.Core.Logic.{_⊎_}
 use mathlib.Core.Path.{_≡_}
-use Prim.Native.Nat.{ℕ, _+_, _-_, _≤_}
+use Prim.Native.Nat.{ℕ, _+_, _-_, _≤_, _<_}
 use lib.ListN.{length, getD, take, drop}
 use Rattle.table.specs.declared.Counts.{Counts}
 use Rattle.table.specs.declared.Verdict.the-variants.{Accepted}
@@ -19,12 +19,26 @@ use Rattle.script.specs.declared.Reader.{Reader}
 use Rattle.script.specs.Text.{lineFeed}
 use Rattle.report.specs.Printing.{Put, answerLine, longestLine}
 use Rattle.driver.specs.declared.Ground.{Ground}
+use Rattle.driver.specs.declared.Part.{Part}
 use Rattle.driver.specs.declared.Ground.the-variants.{Known, Unknown}
-use Rattle.driver.specs.declared.Progress.{Progress}
+use Rattle.script.specs.declared.Progress.{Progress}
 use Rattle.driver.specs.declared.Run.{Run}
 use Rattle.driver.specs.declared.Reached.{Reached}
-use Rattle.driver.specs.Script.{effect, own}
-use Rattle.driver.specs.Parts.{Board, lineEnded, withReader, advanced, progressAs, progressOf, resumed}
+use Rattle.script_run.specs.Script.{effect, own}
+use Rattle.script_run.specs.Parts.{Board, lineEnded, withReader, advanced, progressAs, progressOf, resumed}
+
+-- ---- a part
+
+-- what one part answers and leaves: it has run the first `read` bytes of the part, put what they print at the start of `out`, and read
+-- all of the part unless `out` had no room for one line more
+pub record Ran (t script : List ℕ) (p : Progress) (m area out m' area' out' : List ℕ) (r : Part) : Type 0 where
+  pub inside : r .read ≤ length script
+  pub kept : r .progress ≡ progressOf (advanced t (resumed p m area) (take (r .read) script))
+  pub memory : m' ≡ advanced t (resumed p m area) (take (r .read) script) .memory
+  pub lent : area' ≡ advanced t (resumed p m area) (take (r .read) script) .area
+  pub put : Put 0 (advanced t (resumed p m area) (take (r .read) script) .text) out out' (r .written)
+  pub fits : r .written ≤ length out
+  pub far : (r .read ≡ length script) ⊎ (length out < r .written + longestLine)
 
 -- ---- what is known of table and memory, so that they need not be checked again
 

@@ -5,6 +5,7 @@ mod lines;
 mod performing;
 
 pub use report::LONGEST_LINE;
+pub use script::Progress;
 use script::Reader;
 use table::Counts;
 ghost use mathlib.Core.Bool.{not, _&&_};
@@ -15,16 +16,10 @@ ghost use lib.Dec.{leb};
 ghost use lib.ListN.{length};
 ghost use Rattle.memory.specs.Search.{pick};
 ghost use Rattle.report.specs.Printing.{Put, longestLine};
-ghost use Rattle.driver.specs.Script.{begun};
-ghost use Rattle.driver.specs.Parts.{firstProgress, endText, Ran};
+ghost use Rattle.script_run.specs.Script.{begun};
+ghost use Rattle.script_run.specs.Parts.{firstProgress, endText};
+ghost use Rattle.driver.specs.Turns.{Ran};
 ghost use Rattle.driver.specs.Turns.{runWithReader};
-
-// What is kept between two parts of a script: the line that is being read, its number, and whether a line could not be read.
-pub struct Progress {
-    pub reader: Reader,
-    pub line: u64,
-    pub ended: bool,
-}
 
 // What a part came to: how many of its bytes were read, and how many bytes were put into the buffer.
 pub struct Part {

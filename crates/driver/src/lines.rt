@@ -1,11 +1,11 @@
 // One line: its bytes up to the line feed or the end of the part, and what its end does.
 use super::Ground;
-use super::Progress;
 use super::Reached;
 use super::Run;
 use super::performing;
 use script::Command;
 use script::Frame;
+use script::Progress;
 use script::Reader;
 use script::Reading;
 ghost use mathlib.Core.Bool.{false};
@@ -14,7 +14,7 @@ ghost use Prim.Native.Nat.{_+_, _≤_};
 ghost use lib.ListN.{length};
 ghost use Rattle.script.specs.Reader.{frameBytes};
 ghost use Rattle.report.specs.Printing.{longestLine};
-ghost use Rattle.driver.specs.Parts.{isEmpty, nextLine};
+ghost use Rattle.script_run.specs.Parts.{isEmpty, nextLine};
 ghost use Rattle.driver.specs.Turns.{Holds, EffectGave, Scanned, LineRun};
 
 const LINE_FEED: u8 = 10;

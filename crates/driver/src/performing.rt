@@ -23,7 +23,7 @@ ghost use Rattle.layer.specs.Admission.{Admits};
 ghost use Rattle.layer.specs.Step.{describe};
 ghost use Rattle.script.specs.declared.Command.the-variants.{Object};
 ghost use Rattle.report.specs.Printing.{lends, longestLine};
-ghost use Rattle.driver.specs.Script.{callOf, own};
+ghost use Rattle.script_run.specs.Script.{callOf, own};
 ghost use Rattle.driver.specs.Turns.{Checked, Holds, isStart, EffectGave, OwnGave};
 
 // What a command came to: what is now known, and the place behind the line that it printed.

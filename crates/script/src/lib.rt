@@ -72,3 +72,10 @@ pub struct Frame {
     pub value: u64,
     pub length: usize,
 }
+
+// What is kept between two parts of a script: the line that is being read, its number, and whether a line could not be read.
+pub struct Progress {
+    pub reader: Reader,
+    pub line: u64,
+    pub ended: bool,
+}

@@ -9,7 +9,7 @@ use Rattle.layer.specs.Step.{start, stop, step}
 use Rattle.script.specs.declared.Command.{Command}
 use Rattle.script.specs.Characters.{codes}
 use Rattle.report.specs.Printing.{lends, answerLine, refusalLine}
-use Rattle.driver.specs.Script.{callOf, settled, effect, ScriptLine, readable, unreadable, linesOf, Printed, printed, behind, print, begun}
+use Rattle.script_run.specs.Script.{callOf, settled, effect, ScriptLine, readable, unreadable, linesOf, Printed, printed, behind, print, begun}
 use Rattle.cases.proofs.Computed.{stepFast, step-fast}
 use Rattle.script_cases.specs.ScriptCases.{ScriptCase, Prints, AllPrint}
 

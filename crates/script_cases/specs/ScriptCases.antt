@@ -6,7 +6,7 @@ use Prim.Native.String.{String}
 use lib.ListN.{replicate}
 use Rattle.state.specs.Layout.{memorySize, areaSize}
 use Rattle.script.specs.Characters.{codes}
-use Rattle.driver.specs.Script.{printedBy, begun}
+use Rattle.script_run.specs.Script.{printedBy, begun}
 use Rattle.cases.specs.Case.{pair, sendIpdu, receiveIpdu, sendObject, receiveObject}
 
 -- a table, a script and what it prints

@@ -27,7 +27,8 @@ start-of c =
 loop-holds : tie.Need-loop-holds Inv-loop μ-loop
 loop-holds c =
     let at-lent = c .before .before .before in
-    let s = at-lent .before .before .before .before .args in
+    let at-known = at-lent .before .before .before in
+    let s = at-known .before .args in
     (so-far-none (s .t .now) (s .part .now) (s .progress) (s .m .now) (s .area .now) (s .out .now) (c .examine .ensures), refl, refl, refl)
 
 scan-requires : tie.Need-scan-requires Inv-loop μ-loop
@@ -60,24 +61,29 @@ read c =
 
 end-line-requires : tie.Need-end-line-requires Inv-loop μ-loop
 end-line-requires c κs =
-    let at-read = c .before .before .before .before in
+    let at-feed = c .before .before .before in
+    let at-read = at-feed .before in
     (read at-read .stands .stands .known, omega (arith, read at-read .room-left, loop-of at-read .loop .inv .3))
 
 -- ---- the places after its line feed
 
-abbrev read-of : tie.After-slice-known6 Inv-loop μ-loop → tie.After-with-reader Inv-loop μ-loop
-read-of c =
+abbrev called-of : tie.After-slice-known6 Inv-loop μ-loop → tie.After-end-line Inv-loop μ-loop
+called-of c =
     let at-out = c .before .before .before in
-    let at-called = at-out .before .before .before in
-    let at-lent = at-called .before .before .before in
-    at-lent .before .before
+    at-out .before .before .before
+
+abbrev fed-of : tie.After-slice-known6 Inv-loop μ-loop → tie.Then2 Inv-loop μ-loop
+fed-of c =
+    let at-lent = called-of c .before .before .before in
+    at-lent .before
+
+abbrev read-of : tie.After-slice-known6 Inv-loop μ-loop → tie.After-with-reader Inv-loop μ-loop
+read-of c = fed-of c .before
 
 add-at : tie.Need-add-at Inv-loop μ-loop
 add-at c =
-    let at-called = c .before .before .before .before .before .before in
-    let at-lent = at-called .before .before .before in
     let long = start-of (loop-of (read-of c)) .good .1 .1 .1 .0 .0 in
-    record { fits = omega (arith, at-lent .before .if2 .taken, long) }
+    record { fits = omega (arith, fed-of c .if2 .taken, long) }
 
 loop-less : tie.Need-loop-less Inv-loop μ-loop
 loop-less c =
@@ -88,21 +94,20 @@ loop-again : tie.Need-loop-again Inv-loop μ-loop
 loop-again c =
     let at-read = read-of c in
     let s = start-of (loop-of at-read) .args in
-    let at-out = c .before .before .before in
-    let at-called = at-out .before .before .before in
-    let at-lent = at-called .before .before .before in (
+    let called = called-of c .end-line in
+    let inv = loop-of at-read .loop .inv in (
       line-fed (s .t .now) (s .part .now) (s .progress) (s .m .now) (s .area .now) (s .out .now) (read at-read) (at-read .before .scan .ensures)
-          (at-lent .before .if2 .taken) (at-called .end-line .ensures),
-      at-called .end-line .kept .1 .0 ∙ loop-of at-read .loop .inv .1,
-      at-called .end-line .kept .1 .1 .0 ∙ loop-of at-read .loop .inv .2,
-      at-called .end-line .kept .1 .1 .1 .0 ∙ loop-of at-read .loop .inv .3,
+          (fed-of c .if2 .taken) (called .ensures),
+      called .kept .1 .0 ∙ inv .1,
+      called .kept .1 .1 .0 ∙ inv .2,
+      called .kept .1 .1 .1 .0 ∙ inv .3,
     )
 
 loop-less-2 : tie.Need-loop-less-2 Inv-loop μ-loop
 loop-less-2 c = omega (arith, goes (c .before) .low, c .if2 .left)
 
 loop-again-2 : tie.Need-loop-again-2 Inv-loop μ-loop
-loop-again-2 c = let at-read = c .before in (read at-read .stands, loop-of at-read .loop .inv .1, loop-of at-read .loop .inv .2, loop-of at-read .loop .inv .3)
+loop-again-2 c = let inv = loop-of (c .before) .loop .inv in (read (c .before) .stands, inv .1, inv .2, inv .3)
 
 returns : tie.Need-returns Inv-loop μ-loop
 returns c =

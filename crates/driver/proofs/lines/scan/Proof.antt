@@ -8,7 +8,7 @@ use Prim.Native.Nat.{ℕ, _-_, _≤_}
 use native.Mathlib.Omega.{arith}
 use borrow.Author.Needs.{needs}
 use lib.ListN.{length, take, drop}
-use Rattle.driver.specs.Parts.{Board, withReader, advanced}
+use Rattle.script_run.specs.Parts.{Board, withReader, advanced}
 use Rattle.driver.proofs.PartLaws.{scan-none, scan-more}
 use Rattle.driver.proofs.lines.scan.Statement.{statement}
 use Rattle.driver.proofs.lines.scan.Tie as tie

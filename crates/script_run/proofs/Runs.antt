@@ -7,8 +7,8 @@ use Prim.Native.Nat.{ℕ, suc}
 use Rattle.calls.specs.Answers.{Outcome}
 use Rattle.layer.specs.Step.{step, run, memoryAfter}
 use Rattle.report.specs.Printing.{lends, answerLine}
-use Rattle.driver.specs.Script.{callOf, settled, effect, ScriptLine, readable, unreadable, print}
-use Rattle.driver.specs.ScriptCalls.{callsOf, answerLines, refusalOf}
+use Rattle.script_run.specs.Script.{callOf, settled, effect, ScriptLine, readable, unreadable, print}
+use Rattle.script_run.specs.ScriptCalls.{callsOf, answerLines, refusalOf}
 
 settled-memory : (b : Bool) (area : List ℕ) (o : Outcome) → settled b area o .memory ≡ o .memory
 settled-memory true area o = refl

@@ -28,7 +28,7 @@ use Rattle.layer.specs.Step.{start, stop, step}
 use Rattle.layer.proofs.Admitted.{front-of}
 use Rattle.layer.proofs.ReadyKept.{start-ready, WorkingReady, working-ready}
 use Rattle.layer.proofs.StartInRange.{prepared-ready}
-use Rattle.driver.specs.Script.{begun}
+use Rattle.script_run.specs.Script.{begun}
 
 module _ (t : List ℕ) (c : Counts) (accepted : check t ≡ Accepted c) where
   -- a memory in range: 7 where the layer is stopped, else admitted

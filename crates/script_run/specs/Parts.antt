@@ -17,9 +17,8 @@ use Rattle.script.specs.declared.Reading.the-variants.{Readable, Unreadable}
 use Rattle.script.specs.Text.{lineFeed}
 use Rattle.script.specs.Reader.{next, fresh, commandOf, frameOf, frameBytes}
 use Rattle.report.specs.Printing.{Put, answerLine, refusalLine, longestLine}
-use Rattle.driver.specs.declared.Part.{Part}
-use Rattle.driver.specs.declared.Progress.{Progress}
-use Rattle.driver.specs.Script.{effect}
+use Rattle.script.specs.declared.Progress.{Progress}
+use Rattle.script_run.specs.Script.{effect}
 
 -- a run so far: the line that is being read, its number, whether a line could not be read, memory and area, and what was printed
 pub record Board : Type 0 where
@@ -99,14 +98,3 @@ progressOf b = progressAs (b .reader) (b .line) (b .ended)
 -- a part begins with nothing printed
 abbrev pub resumed : Progress → List ℕ → List ℕ → Board
 resumed p m area = board (p .reader) (p .line) (p .ended) m area []
-
--- what one part answers and leaves: it has run the first `read` bytes of the part, put what they print at the start of `out`, and read
--- all of the part unless `out` had no room for one line more
-pub record Ran (t script : List ℕ) (p : Progress) (m area out m' area' out' : List ℕ) (r : Part) : Type 0 where
-  pub inside : r .read ≤ length script
-  pub kept : r .progress ≡ progressOf (advanced t (resumed p m area) (take (r .read) script))
-  pub memory : m' ≡ advanced t (resumed p m area) (take (r .read) script) .memory
-  pub lent : area' ≡ advanced t (resumed p m area) (take (r .read) script) .area
-  pub put : Put 0 (advanced t (resumed p m area) (take (r .read) script) .text) out out' (r .written)
-  pub fits : r .written ≤ length out
-  pub far : (r .read ≡ length script) ⊎ (length out < r .written + longestLine)

@@ -23,11 +23,11 @@ use Rattle.script.specs.Reading.{fieldsOf, bytesIn, readLine}
 use Rattle.script.specs.Reader.{next, nextFrom, fresh, commandOf, frameOf, frameBytes}
 use Rattle.script.proofs.LineReads.{command-reads, frame-reads, frame-too-long, begun-reads}
 use Rattle.report.specs.Printing.{answerLine, refusalLine}
-use Rattle.driver.specs.Script.{effect, ScriptLine, readable, unreadable, lineAs, lineOf, unended, linesFrom, Printed, print, printedBy}
-use Rattle.driver.specs.Parts.{Board, board, nextLine, answered, refused, byReading, lineEnded, withReader, advance, advanced, isEmpty, endText}
-use Rattle.driver.specs.Parts.{firstProgress, progressOf, resumed}
-use Rattle.driver.proofs.Joined.{advanced-ended}
-use Rattle.driver.proofs.LongFrames.{effect-long}
+use Rattle.script_run.specs.Script.{effect, ScriptLine, readable, unreadable, lineAs, lineOf, unended, linesFrom, Printed, print, printedBy}
+use Rattle.script_run.specs.Parts.{Board, board, nextLine, answered, refused, byReading, lineEnded, withReader, advance, advanced, isEmpty, endText}
+use Rattle.script_run.specs.Parts.{firstProgress, progressOf, resumed}
+use Rattle.script_run.proofs.Joined.{advanced-ended}
+use Rattle.script_run.proofs.LongFrames.{effect-long}
 
 -- the board at the end is the one that the definition gives, behind the text so far
 pub record Agrees (e : Board) (before : List ℕ) (p : Printed) : Type 0 where

@@ -11,9 +11,9 @@ use Rattle.script.specs.declared.Reading.the-variants.{Readable, Unreadable}
 use Rattle.script.specs.Text.{lineFeed}
 use Rattle.script.specs.Reader.{next, commandOf, frameOf, frameBytes}
 use Rattle.report.specs.Printing.{answerLine, refusalLine}
-use Rattle.driver.specs.declared.Progress.{Progress}
-use Rattle.driver.specs.Script.{effect}
-use Rattle.driver.specs.Parts.{Board, board, answered, refused, byReading, lineEnded, withReader, advance, advanced, progressOf, resumed}
+use Rattle.script.specs.declared.Progress.{Progress}
+use Rattle.script_run.specs.Script.{effect}
+use Rattle.script_run.specs.Parts.{Board, board, answered, refused, byReading, lineEnded, withReader, advance, advanced, progressOf, resumed}
 
 -- ---- one part after another
 

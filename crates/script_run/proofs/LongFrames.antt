@@ -30,7 +30,7 @@ use Rattle.layer.specs.Step.{step, indication}
 use Rattle.script.specs.declared.Ask.the-variants.{Receive, Status, Marks, ClearMarks}
 use Rattle.script.specs.declared.Command.{Command}
 use Rattle.script.specs.declared.Command.the-variants.{Start, Stop, Send, Initialise, Object, Periodic, Indication, Confirm, Tick}
-use Rattle.driver.specs.Script.{effect}
+use Rattle.script_run.specs.Script.{effect}
 
 module _ (t : List ℕ) (k : ℕ) (x y : List ℕ) (long-x : 8 < length x) (long-y : 8 < length y) where
   indication-of-long : (c : Counts) → Right t c → k < c .ipdus → (good : Bool) (m : List ℕ)

@@ -5,7 +5,7 @@ use Prim.Native.Nat.{ℕ, suc}
 use Rattle.calls.specs.Answers.{Outcome}
 use Rattle.layer.specs.Step.{Call}
 use Rattle.report.specs.Printing.{lends, answerLine, refusalLine}
-use Rattle.driver.specs.Script.{callOf, settled, effect, ScriptLine, readable, unreadable}
+use Rattle.script_run.specs.Script.{callOf, settled, effect, ScriptLine, readable, unreadable}
 
 -- the calls up to the first line that can't be read, each lent the area that the one before left
 abbrev pub callsOf : List ℕ → List ScriptLine → List ℕ → List ℕ → List Call

@@ -1,0 +1,5 @@
+pub mod Joined
+pub mod LongFrames
+pub mod Prints
+pub mod Runs
+pub mod Begun

@@ -1,0 +1,1 @@
+// What a script prints: definitions in specs/, laws in proofs/, no code.
