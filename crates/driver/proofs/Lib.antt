@@ -1,6 +1,3 @@
 pub mod PartLaws
 pub mod LineLaws
 pub mod PartRuns
-pub mod Examined
-pub mod Performed
-pub mod GivenLines

@@ -15,11 +15,12 @@ use Rattle.script.specs.Reader.{fresh, commandOf, frameOf, bytesDown, frameByte
 use Rattle.script.proofs.BytesDown.{down-length}
 use Rattle.report.specs.Printing.{Put, refusalLine, longestLine}
 use Rattle.report.proofs.StatusLines.{refusal-length}
-use Rattle.driver.specs.declared.Ground.{Ground}
+use Rattle.commands.specs.declared.Ground.{Ground}
 use Rattle.script.specs.declared.Progress.{Progress}
 use Rattle.script_run.specs.Script.{effect}
 use Rattle.script_run.specs.Parts.{nextLine, lineEnded, progressAs}
-use Rattle.driver.specs.Turns.{Holds, Gave, runAs, LineRun}
+use Rattle.commands.specs.Given.{Holds, Gave}
+use Rattle.driver.specs.Turns.{runAs, LineRun}
 
 -- ---- the bytes of an indication, spelt at the start of a buffer
 

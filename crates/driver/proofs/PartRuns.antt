@@ -17,14 +17,15 @@ use Rattle.script.specs.declared.Reader.{Reader}
 use Rattle.script.specs.Text.{lineFeed}
 use Rattle.report.specs.Printing.{Put, longestLine}
 use Rattle.report.proofs.Puts.{put-append, put-length}
-use Rattle.driver.specs.declared.Ground.{Ground}
+use Rattle.commands.specs.declared.Ground.{Ground}
 use Rattle.driver.specs.declared.Part.{Part}
 use Rattle.script.specs.declared.Progress.{Progress}
 use Rattle.driver.specs.declared.Reached.{Reached}
 use Rattle.driver.specs.declared.Run.{Run}
 use Rattle.script_run.specs.Parts.{Board, lineEnded, withReader, advance, advanced, progressAs, progressOf, resumed}
 use Rattle.driver.specs.Turns.{Ran}
-use Rattle.driver.specs.Turns.{Holds, runAs, runWithReader, Scanned, LineRun}
+use Rattle.commands.specs.Given.{Holds}
+use Rattle.driver.specs.Turns.{runAs, runWithReader, Scanned, LineRun}
 use Rattle.script_run.proofs.Joined.{advanced-append, advanced-one, advanced-ended, printedBefore, line-ended-before, resumed-before}
 
 -- a run, with memory, area and buffer, stands where the board says

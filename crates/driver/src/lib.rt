@@ -1,13 +1,11 @@
 // Runs the lines of a script (W-201) over a table and lent memory, part by part, and puts what is printed into a lent buffer. Table and
 // memory are checked once in a part, then at no further call.
-mod examining;
 mod lines;
-mod performing;
 
+use commands::Ground;
 pub use report::LONGEST_LINE;
 pub use script::Progress;
 use script::Reader;
-use table::Counts;
 ghost use mathlib.Core.Bool.{not, _&&_};
 ghost use mathlib.Core.List.{[]};
 ghost use mathlib.Core.Path.{_≡_};
@@ -26,12 +24,6 @@ pub struct Part {
     pub progress: Progress,
     pub read: usize,
     pub written: usize,
-}
-
-// Whether table and memory were found right.
-pub enum Ground {
-    Known(Counts),
-    Unknown,
 }
 
 // A part as it is run: how much of `out` is written, and what is known of table and memory.
@@ -83,7 +75,7 @@ pub fn run_some(
     let mut at = 0;
     let mut run = Run {
         progress: progress,
-        ground: examining::examine(t, m),
+        ground: commands::examine(t, m),
         written: 0,
     };
     while (at < n) & goes_on(run, room) {

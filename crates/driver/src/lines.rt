@@ -1,8 +1,8 @@
 // One line: its bytes up to the line feed or the end of the part, and what its end does.
-use super::Ground;
 use super::Reached;
 use super::Run;
-use super::performing;
+use commands::Ground;
+use commands::Made;
 use script::Command;
 use script::Frame;
 use script::Progress;
@@ -15,7 +15,8 @@ ghost use lib.ListN.{length};
 ghost use Rattle.script.specs.Reader.{frameBytes};
 ghost use Rattle.report.specs.Printing.{longestLine};
 ghost use Rattle.script_run.specs.Parts.{isEmpty, nextLine};
-ghost use Rattle.driver.specs.Turns.{Holds, EffectGave, Scanned, LineRun};
+ghost use Rattle.commands.specs.Given.{Holds, EffectGave};
+ghost use Rattle.driver.specs.Turns.{Scanned, LineRun};
 
 const LINE_FEED: u8 = 10;
 
@@ -88,7 +89,7 @@ fn make(
     ground: Ground,
     command: Command,
     frame: Frame,
-) -> performing::Made
+) -> Made
     requires { ⌜ Holds ground (now t) (now m) ⌝ }
     requires { ⌜ at + longestLine ≤ length (now out) ⌝ }
     requires { ⌜ frame .length ≤ 9 ⌝ }
@@ -99,7 +100,7 @@ fn make(
     let mut bytes = [0u8; 9];
     let n = frame.length;
     script::spell(&mut bytes, n, frame.value);
-    performing::perform(t, m, area, &bytes[..n], out, at, ground, command)
+    commands::perform(t, m, area, &bytes[..n], out, at, ground, command)
 }
 
 // The number of a line has 64 bits.

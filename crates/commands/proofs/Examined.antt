@@ -17,7 +17,7 @@ use Rattle.state.specs.Layout.{memorySize}
 use Rattle.state.specs.Ranges.{inRange}
 use Rattle.state.proofs.Ready.{in-range-ready}
 use Rattle.layer.specs.Admission.{workingMemory}
-use Rattle.driver.specs.Turns.{Checked}
+use Rattle.commands.specs.Given.{Checked}
 
 pub verdict-accepts : (t : List ℕ) {v : Verdict} {c : Counts} → v ≡ check t → v ≡ Accepted c → check t ≡ Accepted c
 verdict-accepts t e f = sym e ∙ f

@@ -1,10 +1,10 @@
--- `driver::performing::call_of_object`: the arm tells what is asked, and its call answers that.
+-- `commands::performing::call_of_object`: the arm tells what is asked, and its call answers that.
 -- Assumes nothing.
 use borrow.Author.Needs.{needs}
 use mathlib.Core.List.{[]}
-use Rattle.driver.proofs.Performed.{asked}
-use Rattle.driver.proofs.performing.call_of_object.Statement.{statement}
-use Rattle.driver.proofs.performing.call_of_object.Tie as tie
+use Rattle.commands.proofs.Performed.{asked}
+use Rattle.commands.proofs.performing.call_of_object.Statement.{statement}
+use Rattle.commands.proofs.performing.call_of_object.Tie as tie
 
 pub call-of-object-spec : {M : Type 1} → statement M
 call-of-object-spec =

@@ -1,9 +1,9 @@
--- `driver::performing::fits`: the arm tells the command, and so whether it is lent an area.
+-- `commands::performing::fits`: the arm tells the command, and so whether it is lent an area.
 -- Assumes nothing.
 use borrow.Author.Needs.{needs}
-use Rattle.driver.proofs.Performed.{no-area}
-use Rattle.driver.proofs.performing.fits.Statement.{statement}
-use Rattle.driver.proofs.performing.fits.Tie as tie
+use Rattle.commands.proofs.Performed.{no-area}
+use Rattle.commands.proofs.performing.fits.Statement.{statement}
+use Rattle.commands.proofs.performing.fits.Tie as tie
 
 pub fits-spec : {M : Type 1} → statement M
 fits-spec =

@@ -1,6 +1,7 @@
 // A command over table, memory and area: admitted or refused as the layer's calls are, but with what is known of table and memory taken
 // over from the command before.
 use super::Ground;
+use super::Made;
 use calls::Answer;
 use layer::Admission;
 use script::Ask;
@@ -24,16 +25,10 @@ ghost use Rattle.layer.specs.Step.{describe};
 ghost use Rattle.script.specs.declared.Command.the-variants.{Object};
 ghost use Rattle.report.specs.Printing.{lends, longestLine};
 ghost use Rattle.script_run.specs.Script.{callOf, own};
-ghost use Rattle.driver.specs.Turns.{Checked, Holds, isStart, EffectGave, OwnGave};
-
-// What a command came to: what is now known, and the place behind the line that it printed.
-pub struct Made {
-    pub ground: Ground,
-    pub end: usize,
-}
+ghost use Rattle.commands.specs.Given.{Checked, Holds, isStart, EffectGave, OwnGave};
 
 // Makes the call of a command, and puts its line into `out`.
-pub(crate) fn perform(
+pub fn perform(
     t: &[u8],
     m: &mut [u8],
     area: &mut [u8],

@@ -1,9 +1,9 @@
--- `driver::performing::perform_admitted`: the call's own outcome over the first bytes of memory, and the line of its answer.
+-- `commands::performing::perform_admitted`: the call's own outcome over the first bytes of memory, and the line of its answer.
 -- Assumes nothing.
 use borrow.Author.Needs.{needs}
-use Rattle.driver.proofs.GivenLines.{area-kept, gave-own}
-use Rattle.driver.proofs.performing.perform_admitted.Statement.{statement}
-use Rattle.driver.proofs.performing.perform_admitted.Tie as tie
+use Rattle.commands.proofs.GivenLines.{area-kept, gave-own}
+use Rattle.commands.proofs.performing.perform_admitted.Statement.{statement}
+use Rattle.commands.proofs.performing.perform_admitted.Tie as tie
 
 abbrev start-of : tie.After-call → tie.Start
 start-of c =

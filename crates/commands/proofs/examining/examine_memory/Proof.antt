@@ -1,11 +1,11 @@
--- `driver::examining::examine_memory`: long enough and in range, memory is what a call may rely on.
+-- `commands::examining::examine_memory`: long enough and in range, memory is what a call may rely on.
 -- Assumes nothing.
 use borrow.Author.Needs.{needs}
 use Rattle.memory.specs.Bytes.{Bytes}
 use Rattle.layer.proofs.Admitted.{working-exact, working-long}
-use Rattle.driver.proofs.Examined.{table-right, range-checked}
-use Rattle.driver.proofs.examining.examine_memory.Statement.{statement}
-use Rattle.driver.proofs.examining.examine_memory.Tie as tie
+use Rattle.commands.proofs.Examined.{table-right, range-checked}
+use Rattle.commands.proofs.examining.examine_memory.Statement.{statement}
+use Rattle.commands.proofs.examining.examine_memory.Tie as tie
 
 pub examine-memory-spec : {M : Type 1} → statement M
 examine-memory-spec =

@@ -20,11 +20,11 @@ use Rattle.script.specs.declared.Command.{Command}
 use Rattle.script.specs.Text.{digitOf, lineFeed}
 use Rattle.report.specs.Printing.{lends, answerLine, Put, longestLine}
 use Rattle.report.proofs.StatusLines.{answer-length}
-use Rattle.driver.specs.declared.Ground.{Ground}
-use Rattle.driver.specs.declared.Ground.the-variants.{Known}
+use Rattle.commands.specs.declared.Ground.{Ground}
+use Rattle.commands.specs.declared.Ground.the-variants.{Known}
 use Rattle.script_run.specs.Script.{effect, own}
-use Rattle.driver.specs.Turns.{Checked, Holds, isStart, Gave}
-use Rattle.driver.proofs.Performed.{longFor, effect-refused, effect-admitted, effect-start, fits-area, refused-line, started-line, checked-after, start-holds}
+use Rattle.commands.specs.Given.{Checked, Holds, isStart, Gave}
+use Rattle.commands.proofs.Performed.{longFor, effect-refused, effect-admitted, effect-start, fits-area, refused-line, started-line, checked-after, start-holds}
 
 -- the area that a call was lent is as long as before
 pub area-kept : {lent : Bool} {before after : ℕ} → (lent ≡ true → areaSize ≤ before) → after ≡ before → lent ≡ true → areaSize ≤ after

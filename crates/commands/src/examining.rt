@@ -6,10 +6,10 @@ use table::Verdict;
 ghost use mathlib.Core.Path.{_≡_};
 ghost use Rattle.table.specs.declared.Verdict.the-variants.{Accepted};
 ghost use Rattle.table.specs.Check.{check};
-ghost use Rattle.driver.specs.Turns.{Holds};
+ghost use Rattle.commands.specs.Given.{Holds};
 
 // Whether the table is right, and the memory long enough with every stored number in its range.
-pub(crate) fn examine(t: &[u8], m: &[u8]) -> Ground
+pub fn examine(t: &[u8], m: &[u8]) -> Ground
     ensures { λ r. ⌜ Holds r (now (t .entry)) (now (m .entry)) ⌝ }
 {
     let verdict = table::check(t);

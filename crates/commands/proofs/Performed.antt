@@ -45,10 +45,10 @@ use Rattle.script.specs.declared.Command.the-variants.{Start, Stop, Send, Initi
 use Rattle.script.specs.Text.{digitOf, lineFeed}
 use Rattle.report.specs.Printing.{lends, answerLine}
 use Rattle.report.proofs.StatusLines.{status-line, start-line}
-use Rattle.driver.specs.declared.Ground.{Ground}
-use Rattle.driver.specs.declared.Ground.the-variants.{Known, Unknown}
+use Rattle.commands.specs.declared.Ground.{Ground}
+use Rattle.commands.specs.declared.Ground.the-variants.{Known, Unknown}
 use Rattle.script_run.specs.Script.{callOf, settled, effect, own}
-use Rattle.driver.specs.Turns.{Checked, Holds, isStart}
+use Rattle.commands.specs.Given.{Checked, Holds, isStart}
 
 -- ---- a command by its place among the variants
 
@@ -83,16 +83,16 @@ lent-area command known n told lent long = long (ap lends told ∙ lent)
 -- ---- what a command's call does itself
 
 -- a value has 32 bits, and an indication is lent bytes
-abbrev pub Small : Command → List ℕ → Type 0
-Small Start bytes = Unit
-Small Stop bytes = Unit
-Small (Send i v) bytes = v < 2 ^ 32
-Small (Initialise i v) bytes = v < 2 ^ 32
-Small (Object ask i) bytes = Unit
-Small (Periodic on) bytes = Unit
-Small (Indication k good) bytes = Bytes bytes
-Small (Confirm k good) bytes = Unit
-Small Tick bytes = Unit
+abbrev pub InTypes : Command → List ℕ → Type 0
+InTypes Start bytes = Unit
+InTypes Stop bytes = Unit
+InTypes (Send i v) bytes = v < 2 ^ 32
+InTypes (Initialise i v) bytes = v < 2 ^ 32
+InTypes (Object ask i) bytes = Unit
+InTypes (Periodic on) bytes = Unit
+InTypes (Indication k good) bytes = Bytes bytes
+InTypes (Confirm k good) bytes = Unit
+InTypes Tick bytes = Unit
 
 -- neither looks at the bytes or the area
 asks : (ask : Ask) (i : ObjectNumber) (bytes area : List ℕ) → callOf (Object ask i) bytes area ≡ callOf (Object ask i) [] []
@@ -106,7 +106,7 @@ periods true bytes area t c m = refl
 periods false bytes area t c m = refl
 
 module _ {t : List ℕ} {c : Counts} (bytes area : List ℕ) {m : List ℕ} (ready : Ready t c m) where
-  command-ready : (command : Command) → Small command bytes → Ready t c (describe (callOf command bytes area) .does t c m .memory)
+  command-ready : (command : Command) → InTypes command bytes → Ready t c (describe (callOf command bytes area) .does t c m .memory)
   command-ready Start small = start-ready t c (ready .right) (ready .tables)
   command-ready Stop small = ready-stop t c m ready
   command-ready (Send i v) small = ready-send t c m ready (i .0) v small area
@@ -122,10 +122,10 @@ module _ {t : List ℕ} {c : Counts} (bytes area : List ℕ) {m : List ℕ} (rea
   command-ready Tick small = ready-tick t c m ready area
 
   module _ {r : Answer} {n : List ℕ} where
-    made-ready : (command : Command) (b : List ℕ) → Small command bytes → outcome r n b ≡ describe (callOf command bytes area) .does t c m → Ready t c n
+    made-ready : (command : Command) (b : List ℕ) → InTypes command bytes → outcome r n b ≡ describe (callOf command bytes area) .does t c m → Ready t c n
     made-ready command b small does = rw (← ap (λ (o : Outcome). o .memory) does) at (command-ready command small)
 
-    module _ {command known : Command} (told : command ≡ known) (small : Small known bytes) where
+    module _ {command known : Command} (told : command ≡ known) (small : InTypes known bytes) where
       pub own-lent : {b : List ℕ} → lends known ≡ true → outcome r n b ≡ describe (callOf known bytes area) .does t c m
           → (outcome r n b ≡ own t c command bytes area m) × Ready t c n
       unfolding own

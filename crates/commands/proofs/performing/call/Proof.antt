@@ -1,10 +1,10 @@
--- `driver::performing::call`: the arm tells the command, and its call does what the command does.
+-- `commands::performing::call`: the arm tells the command, and its call does what the command does.
 -- Assumes nothing.
 use borrow.Author.Needs.{needs}
 use mathlib.Core.Path.{refl}
-use Rattle.driver.proofs.Performed.{started-not, lent-area, own-lent, own-alone, own-asked, own-periodic}
-use Rattle.driver.proofs.performing.call.Statement.{statement}
-use Rattle.driver.proofs.performing.call.Tie as tie
+use Rattle.commands.proofs.Performed.{started-not, lent-area, own-lent, own-alone, own-asked, own-periodic}
+use Rattle.commands.proofs.performing.call.Statement.{statement}
+use Rattle.commands.proofs.performing.call.Tie as tie
 
 pub call-spec : {M : Type 1} → statement M
 call-spec =

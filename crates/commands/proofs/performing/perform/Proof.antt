@@ -1,11 +1,11 @@
--- `driver::performing::perform`: a start, a refusal and an admitted call each give what the command does, and its line.
+-- `commands::performing::perform`: a start, a refusal and an admitted call each give what the command does, and its line.
 -- Assumes nothing.
 use borrow.Author.Needs.{needs}
 use mathlib.Core.Path.{sym, _∙_}
-use Rattle.driver.proofs.Performed.{admitted-checked}
-use Rattle.driver.proofs.GivenLines.{admitted-lent, gave-start, gave-refused, gave-admitted}
-use Rattle.driver.proofs.performing.perform.Statement.{statement}
-use Rattle.driver.proofs.performing.perform.Tie as tie
+use Rattle.commands.proofs.Performed.{admitted-checked}
+use Rattle.commands.proofs.GivenLines.{admitted-lent, gave-start, gave-refused, gave-admitted}
+use Rattle.commands.proofs.performing.perform.Statement.{statement}
+use Rattle.commands.proofs.performing.perform.Tie as tie
 
 abbrev start-of : tie.After-is-start → tie.Start
 start-of c =

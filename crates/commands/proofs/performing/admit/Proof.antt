@@ -1,9 +1,9 @@
--- `driver::performing::admit`: what is known is what the shorter way asks for.
+-- `commands::performing::admit`: what is known is what the shorter way asks for.
 -- Assumes nothing.
 use borrow.Author.Needs.{needs}
-use Rattle.driver.proofs.Performed.{holds-known}
-use Rattle.driver.proofs.performing.admit.Statement.{statement}
-use Rattle.driver.proofs.performing.admit.Tie as tie
+use Rattle.commands.proofs.Performed.{holds-known}
+use Rattle.commands.proofs.performing.admit.Statement.{statement}
+use Rattle.commands.proofs.performing.admit.Tie as tie
 
 pub admit-spec : {M : Type 1} → statement M
 admit-spec =

@@ -1,9 +1,0 @@
--- `driver::performing::is_start`: the arm tells the command.
--- Assumes nothing.
-use borrow.Author.Needs.{needs}
-use Rattle.driver.proofs.Performed.{no-start}
-use Rattle.driver.proofs.performing.is_start.Statement.{statement}
-use Rattle.driver.proofs.performing.is_start.Tie as tie
-
-pub is-start-spec : {M : Type 1} → statement M
-is-start-spec = tie.close (tie.spec (λ c. search needs) (λ c. search needs) (λ c. no-start (c .before .args .command) (c .match .keys2)))
