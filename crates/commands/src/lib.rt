@@ -1,5 +1,5 @@
-// The commands of a script (W-201) over table, memory and area: each is admitted or refused as the layer's calls are, but table and memory
-// are not checked again where they are known to be right; its line is put into a lent buffer.
+// The commands of a script (W-201) over table, memory and area: each is admitted or refused as the layer's calls are, but where
+// table and memory are known to be right only a start checks the table again; its line is put into a lent buffer.
 mod examining;
 mod performing;
 

@@ -2,7 +2,7 @@
 use mathlib.Core.Bool.{Bool, true, false, not, _&&_, _||_}
 use mathlib.Core.List.{List, [], _∷_, _++_}
 use mathlib.Core.Logic.{⊎-elim}
-use mathlib.Core.Path.{_≡_, refl, sym, ap, _∙_}
+use mathlib.Core.Path.{_≡_, refl, ap, _∙_}
 use Prim.Native.Nat.{ℕ, suc, _+_, _-_, _^_, _≤_, _<_}
 use native.Mathlib.Omega.{arith}
 use borrow.Author.Tests.{lt-ltb, le-ltb, le-leb, lt-leb, ne-eqb}
@@ -22,7 +22,7 @@ use Rattle.report.proofs.Puts.{put-none}
 use Rattle.report.proofs.StatusLines.{refusal-length}
 use Rattle.script.specs.declared.Progress.{Progress}
 use Rattle.script_run.specs.Script.{begun}
-use Rattle.script_run.specs.Parts.{Board, board, nextLine, withReader, advance, advanced, isEmpty, endText}
+use Rattle.script_run.specs.Parts.{Board, nextLine, withReader, advance, advanced, isEmpty, endText}
 use Rattle.script_run.proofs.Joined.{advanced-one}
 
 -- ---- a start, then a stop

@@ -1,7 +1,7 @@
 -- A part that is run line by line: what holds between two lines (`SoFar`), that each line keeps it, and that it ends in `Ran`.
 -- Assumes nothing.
 use mathlib.Core.Bool.{Bool, true, false, not, _&&_}
-use mathlib.Core.List.{List, [], _∷_, _++_}
+use mathlib.Core.List.{List}
 use mathlib.Core.Logic.{_⊎_, inl, inr, ⊎-elim}
 use mathlib.Core.Path.{_≡_, refl, sym, ap, _∙_, subst}
 use Prim.Native.Nat.{ℕ, suc, _+_, _-_, _≤_, _<_}
@@ -9,16 +9,15 @@ use native.Mathlib.Omega.{arith}
 use borrow.Author.Tests.{ltb-true, ltb-false, leb-true, leb-false, not-true}
 use lib.Dec.{ltb, leb}
 use lib.ListN.{length, take, drop, getD}
-use lib.Seq.{sets, take-suc, take-all, take-add}
+use lib.Seq.{take-suc, take-add}
 use Rattle.memory.specs.Search.{pick}
 use Rattle.memory.proofs.Search.{picked}
 use Rattle.memory.proofs.Tests.{and-split, true-or-false}
 use Rattle.script.specs.declared.Reader.{Reader}
 use Rattle.script.specs.Text.{lineFeed}
 use Rattle.report.specs.Printing.{Put, longestLine}
-use Rattle.report.proofs.Puts.{put-append, put-length}
+use Rattle.report.proofs.Puts.{put-append}
 use Rattle.commands.specs.declared.Ground.{Ground}
-use Rattle.driver.specs.declared.Part.{Part}
 use Rattle.script.specs.declared.Progress.{Progress}
 use Rattle.driver.specs.declared.Reached.{Reached}
 use Rattle.driver.specs.declared.Run.{Run}

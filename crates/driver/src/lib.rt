@@ -1,5 +1,5 @@
 // Runs the lines of a script (W-201) over a table and lent memory, part by part, and puts what is printed into a lent buffer. Table and
-// memory are checked once in a part, then at no further call.
+// memory are checked once in a part and not at each call; a start checks the table again.
 mod lines;
 
 use commands::Ground;

@@ -1,9 +1,9 @@
 -- A line as it is read, byte by byte, in a few numbers: the name as two numbers in base 256, the numbers so far, the bytes as a number
 -- and how many hex digits there were. Laws in proofs/LineReads say what this has to do with Reading. Assumes nothing.
-use mathlib.Core.Bool.{Bool, true, false, not, _&&_}
+use mathlib.Core.Bool.{Bool, false, not, _&&_}
 use mathlib.Core.List.{List, [], _∷_, _++_}
 use Prim.Native.Nat.{ℕ, zero, suc, _+_, _*_, _/_, _%_, _^_}
-use lib.Dec.{ltb, leb, eqb}
+use lib.Dec.{ltb, eqb}
 use Rattle.memory.specs.Search.{pick}
 use Rattle.script.specs.declared.Frame.{Frame}
 use Rattle.script.specs.declared.Hex.{Hex}

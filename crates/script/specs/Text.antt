@@ -6,7 +6,6 @@ use Prim.Native.Nat.{ℕ, zero, suc, _+_, _/_, _%_}
 use lib.Dec.{ltb}
 use Rattle.memory.specs.Search.{pick}
 use Rattle.script.specs.Characters.{codes}
-use Rattle.script.specs.declared.Ask.{Ask}
 use Rattle.script.specs.declared.Ask.the-variants.{Receive, Status, Marks, ClearMarks}
 use Rattle.script.specs.declared.Command.{Command}
 use Rattle.script.specs.declared.Command.the-variants.{Start, Stop, Send, Initialise, Object, Periodic, Indication, Confirm, Tick}

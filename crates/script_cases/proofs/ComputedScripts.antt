@@ -1,6 +1,6 @@
 -- A case of a script is computed by the fast step of crates/cases. Assumes nothing.
 use mathlib.Core.List.{List, [], _∷_, _++_}
-use mathlib.Core.Path.{_≡_, refl, ap, sym, _∙_}
+use mathlib.Core.Path.{_≡_, refl, ap, _∙_}
 use Prim.Native.Nat.{ℕ, suc}
 use lib.ListN.{replicate}
 use Rattle.state.specs.Layout.{memorySize, areaSize}
@@ -9,7 +9,7 @@ use Rattle.layer.specs.Step.{start, stop, step}
 use Rattle.script.specs.declared.Command.{Command}
 use Rattle.script.specs.Characters.{codes}
 use Rattle.report.specs.Printing.{lends, answerLine, refusalLine}
-use Rattle.script_run.specs.Script.{callOf, settled, effect, ScriptLine, readable, unreadable, linesOf, Printed, printed, behind, print, begun}
+use Rattle.script_run.specs.Script.{callOf, settled, effect, ScriptLine, readable, unreadable, linesOf, print, begun}
 use Rattle.cases.proofs.Computed.{stepFast, step-fast}
 use Rattle.script_cases.specs.ScriptCases.{ScriptCase, Prints, AllPrint}
 

@@ -1,12 +1,12 @@
 -- The memory that a run begins from is that of a stopped layer with every stored number in its range, and depends on the table alone.
 -- Assumes: the table was accepted and holds bytes, and memory is long enough.
-use mathlib.Core.Bool.{Bool, true, false, _&&_}
-use mathlib.Core.List.{List, [], _++_}
-use mathlib.Core.Path.{_≡_, refl, sym, ap, _∙_}
+use mathlib.Core.Bool.{true}
+use mathlib.Core.List.{List, _++_}
+use mathlib.Core.Path.{_≡_, ap, _∙_}
 use Prim.Native.Nat.{ℕ, _≤_}
 use native.Mathlib.Omega.{arith}
 use borrow.Author.Tests.{le-leb}
-use lib.Dec.{leb, eqb}
+use lib.Dec.{leb}
 use lib.ListN.{length, drop}
 use lib.Seq.{drop-append-seam}
 use Rattle.memory.specs.Bytes.{Bytes}
@@ -15,14 +15,13 @@ use Rattle.table.specs.declared.Verdict.the-variants.{Accepted}
 use Rattle.table.specs.Check.{check}
 use Rattle.table.proofs.Accepted.{accepted-right}
 use Rattle.state.specs.Layout.{memorySize, runningAt, withRunning}
-use Rattle.state.specs.Ranges.{inRange, Ready}
+use Rattle.state.specs.Ranges.{Ready}
 use Rattle.state.proofs.Ready.{ready-in-range}
 use Rattle.state.proofs.Running.{running-stored, ready-running}
 use Rattle.calls.specs.declared.Answer.the-variants.{Stopped}
 use Rattle.calls.specs.Calls.{stopIn}
-use Rattle.layer.specs.declared.Admission.{Admission}
 use Rattle.layer.specs.declared.Admission.the-variants.{Admitted, Refused}
-use Rattle.layer.specs.Admission.{workingMemory, admissionOf, admission, startAdmission}
+use Rattle.layer.specs.Admission.{workingMemory, admission, startAdmission}
 use Rattle.layer.specs.Start.{prepared, started}
 use Rattle.layer.specs.Step.{start, stop, step}
 use Rattle.layer.proofs.Admitted.{front-of}

@@ -2,7 +2,7 @@
 -- Assumes nothing.
 use mathlib.Core.Bool.{Bool, true, false}
 use mathlib.Core.List.{List, [], _∷_, _++_, append-assoc, append-nil}
-use mathlib.Core.Path.{_≡_, refl, sym, ap, _∙_}
+use mathlib.Core.Path.{_≡_, refl, ap, _∙_}
 use Prim.Native.Nat.{ℕ}
 use lib.Dec.{eqb}
 use Rattle.memory.specs.Search.{pick}
@@ -13,7 +13,7 @@ use Rattle.script.specs.Reader.{next, commandOf, frameOf, frameBytes}
 use Rattle.report.specs.Printing.{answerLine, refusalLine}
 use Rattle.script.specs.declared.Progress.{Progress}
 use Rattle.script_run.specs.Script.{effect}
-use Rattle.script_run.specs.Parts.{Board, board, answered, refused, byReading, lineEnded, withReader, advance, advanced, progressOf, resumed}
+use Rattle.script_run.specs.Parts.{Board, board, byReading, lineEnded, withReader, advance, advanced, progressOf, resumed}
 
 -- ---- one part after another
 

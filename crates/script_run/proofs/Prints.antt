@@ -1,6 +1,6 @@
 -- W-201 over every script: what a run prints, and what it leaves in memory and area, is what the definition says (`prints`).
 -- Assumes: the script holds bytes, and has fewer than 2 ^ 64 - 1 of them.
-use mathlib.Core.Bool.{Bool, true, false, _||_}
+use mathlib.Core.Bool.{Bool, true, false}
 use mathlib.Core.List.{List, [], _∷_, _++_, append-assoc, append-nil}
 use mathlib.Core.Logic.{⊎-elim}
 use mathlib.Core.Path.{_≡_, refl, sym, ap, _∙_}
@@ -8,7 +8,7 @@ use Prim.Native.Nat.{ℕ, zero, suc, _+_, _-_, _^_, _≤_, _<_}
 use native.Mathlib.Omega.{arith}
 use borrow.Author.Tests.{lt-ltb, ne-eqb}
 use lib.Dec.{ltb, eqb}
-use lib.ListN.{length, getD}
+use lib.ListN.{length}
 use Rattle.memory.specs.Bytes.{Bytes}
 use Rattle.memory.specs.Search.{pick}
 use Rattle.memory.proofs.Tests.{true-or-false, lt-or-le}
@@ -20,11 +20,11 @@ use Rattle.script.specs.declared.Reading.{Reading}
 use Rattle.script.specs.declared.Reading.the-variants.{Readable, Unreadable}
 use Rattle.script.specs.Text.{lineFeed}
 use Rattle.script.specs.Reading.{fieldsOf, bytesIn, readLine}
-use Rattle.script.specs.Reader.{next, nextFrom, fresh, commandOf, frameOf, frameBytes}
+use Rattle.script.specs.Reader.{next, nextFrom, fresh, frameOf, frameBytes}
 use Rattle.script.proofs.LineReads.{command-reads, frame-reads, frame-too-long, begun-reads}
 use Rattle.report.specs.Printing.{answerLine, refusalLine}
-use Rattle.script_run.specs.Script.{effect, ScriptLine, readable, unreadable, lineAs, lineOf, unended, linesFrom, Printed, print, printedBy}
-use Rattle.script_run.specs.Parts.{Board, board, nextLine, answered, refused, byReading, lineEnded, withReader, advance, advanced, isEmpty, endText}
+use Rattle.script_run.specs.Script.{effect, ScriptLine, readable, unreadable, lineAs, linesFrom, Printed, print, printedBy}
+use Rattle.script_run.specs.Parts.{Board, board, refused, byReading, lineEnded, advance, advanced, isEmpty, endText}
 use Rattle.script_run.specs.Parts.{firstProgress, progressOf, resumed}
 use Rattle.script_run.proofs.Joined.{advanced-ended}
 use Rattle.script_run.proofs.LongFrames.{effect-long}

@@ -2,11 +2,8 @@
 -- the parts join, and that the whole is what Script says. Assumes nothing.
 use mathlib.Core.Bool.{Bool, true, false, _||_}
 use mathlib.Core.List.{List, [], _∷_, _++_}
-use mathlib.Core.Logic.{_⊎_}
-use mathlib.Core.Path.{_≡_}
-use Prim.Native.Nat.{ℕ, _+_, _-_, _^_, _≤_, _<_}
+use Prim.Native.Nat.{ℕ, _+_, _-_, _^_}
 use lib.Dec.{ltb, eqb}
-use lib.ListN.{length, take}
 use Rattle.memory.specs.Search.{pick}
 use Rattle.calls.specs.Answers.{Outcome}
 use Rattle.script.specs.declared.Command.{Command}
@@ -16,7 +13,7 @@ use Rattle.script.specs.declared.Reading.{Reading}
 use Rattle.script.specs.declared.Reading.the-variants.{Readable, Unreadable}
 use Rattle.script.specs.Text.{lineFeed}
 use Rattle.script.specs.Reader.{next, fresh, commandOf, frameOf, frameBytes}
-use Rattle.report.specs.Printing.{Put, answerLine, refusalLine, longestLine}
+use Rattle.report.specs.Printing.{answerLine, refusalLine}
 use Rattle.script.specs.declared.Progress.{Progress}
 use Rattle.script_run.specs.Script.{effect}
 

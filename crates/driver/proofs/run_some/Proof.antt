@@ -1,9 +1,7 @@
 -- `driver::run_some`: between two lines all stands where the board says (`SoFar`); a line's bytes and its line feed keep that.
 -- Assumes nothing.
-use mathlib.Core.Bool.{true, false, not, _&&_}
-use mathlib.Core.Logic.{⊎-elim, inl, inr}
-use mathlib.Core.Path.{_≡_, refl, sym, _∙_}
-use Prim.Native.Nat.{_+_, _-_, _≤_, _<_}
+use mathlib.Core.Path.{_≡_, refl, _∙_}
+use Prim.Native.Nat.{_-_}
 use native.Mathlib.Omega.{arith}
 use borrow.Author.Needs.{needs}
 use lib.ListN.{length}

@@ -1,6 +1,5 @@
 -- `driver::lines::make`: the bytes spelt are those of the frame.
 -- Assumes nothing.
-use native.Mathlib.Omega.{arith}
 use borrow.Author.Needs.{needs}
 use Rattle.driver.proofs.LineLaws.{spelt-count, spelt-gave}
 use Rattle.driver.proofs.lines.make.Statement.{statement}
