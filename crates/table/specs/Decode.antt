@@ -4,7 +4,7 @@ use mathlib.Core.Bool.{true, false}
 use mathlib.Core.List.{List}
 use mathlib.Core.Path.{_≡_}
 use Prim.Native.Nat.{ℕ, _≤_, _<_}
-use lib.Dec.{eqb}
+use lib.Dec.{ltb, eqb}
 use Rattle.memory.specs.Search.{pick}
 use Rattle.bits.specs.Slots.{position}
 use Rattle.filter.specs.Filters.{filterOf}
@@ -19,9 +19,11 @@ use Rattle.table.specs.declared.Ipdu.{Ipdu}
 use Rattle.table.specs.declared.Object.{Object}
 use Rattle.table.specs.declared.IpduRecord.{IpduRecord}
 use Rattle.table.specs.declared.ObjectRecord.{ObjectRecord}
+use Rattle.table.specs.declared.Verdict.{Verdict}
+use Rattle.table.specs.declared.Verdict.the-variants.{Accepted, WrongHeader, WrongIpdu, WrongObject}
 use Rattle.table.specs.Records.{mostQueued, counts, ipduRecord, objectRecord}
 use Rattle.table.specs.Rules.{headerRight, ipduRight, orderOf, references, objectRight}
-use Rattle.table.specs.Check.{Shape, overlapsLower, depths}
+use Rattle.table.specs.Check.{Shape, overlapsLower, depths, check}
 
 -- direction and kind: 1 send, 2 receive
 abbrev pub directionOf : ℕ → Direction
@@ -73,3 +75,13 @@ pub record Right (t : List ℕ) (c : Counts) : Type 0 where
   pub objects : (i : ℕ) → i < c .objects → objectRight (objectRecord t (c .ipdus) i) (references t c (objectRecord t (c .ipdus) i)) ≡ true
   pub apart : (i : ℕ) → i < c .objects → overlapsLower t (c .ipdus) i ≡ false
   pub depth : depths t c (c .objects) ≤ mostQueued
+
+-- the length of an I-PDU in bytes, 1 to 8; 0 where the table is wrong or has no such I-PDU
+abbrev pub lengthBy : Verdict → List ℕ → ℕ → ℕ
+lengthBy (Accepted c) t k = pick (ltb k (c .ipdus)) (ipduRecord t k .length) 0
+lengthBy WrongHeader t k = 0
+lengthBy (WrongIpdu j) t k = 0
+lengthBy (WrongObject i) t k = 0
+
+unfoldable pub ipduLength : List ℕ → ℕ → ℕ
+ipduLength t k = lengthBy (check t) t k

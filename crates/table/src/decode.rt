@@ -1,4 +1,5 @@
 // Records of an accepted table as structs that hold what they mean.
+use super::Counts;
 use super::Direction;
 use super::Ipdu;
 use super::IpduNumber;
@@ -8,13 +9,16 @@ use super::Object;
 use super::ObjectNumber;
 use super::ObjectRecord;
 use super::Transfer;
+use super::Verdict;
 use bits::BitSize;
 use bits::ByteLength;
 ghost use mathlib.Core.Path.{_≡_};
 ghost use Prim.Native.Nat.{_+_, _*_, _≤_, _<_};
 ghost use lib.ListN.{length};
 ghost use Rattle.table.specs.Records.{objectBase, ipduRecord, objectRecord};
-ghost use Rattle.table.specs.Decode.{directionOf, modeOf, transferOf, ipduOf, objectOf};
+ghost use Rattle.table.specs.declared.Verdict.the-variants.{Accepted};
+ghost use Rattle.table.specs.Check.{Shape};
+ghost use Rattle.table.specs.Decode.{directionOf, modeOf, transferOf, ipduOf, objectOf, lengthBy, ipduLength};
 
 // An I-PDU of the table.
 pub fn decode_ipdu(t: &[u8], number: IpduNumber) -> Ipdu
@@ -31,6 +35,32 @@ pub fn decode_object(t: &[u8], ipdus: u32, number: ObjectNumber) -> Object
     ensures { λ r. ⌜ r ≡ objectOf (objectRecord (now (t .entry)) ipdus (number .0)) ⌝ }
 {
     object_of(super::object_record(t, ipdus, number))
+}
+
+// The length of an I-PDU for a caller that has nothing but the table: 0 where that is wrong or has no such I-PDU.
+pub fn ipdu_length(t: &[u8], number: IpduNumber) -> ByteLength
+    ensures { λ r. ⌜ r .0 ≡ ipduLength (now (t .entry)) (number .0) ⌝ }
+{
+    let verdict = super::check(t);
+    match verdict {
+        Verdict::Accepted(c) => length_in(t, c, number),
+        Verdict::WrongHeader => ByteLength(0),
+        Verdict::WrongIpdu(_) => ByteLength(0),
+        Verdict::WrongObject(_) => ByteLength(0),
+    }
+}
+
+fn length_in(t: &[u8], c: Counts, number: IpduNumber) -> ByteLength
+    requires { ⌜ Shape (now t) c ⌝ }
+    ensures { λ r. ⌜ r .0 ≡ lengthBy (Accepted c) (now (t .entry)) (number .0) ⌝ }
+{
+    let n = c.ipdus;
+    let k = number.0;
+    if k < n {
+        let r = super::ipdu_record(t, number);
+        return ByteLength(r.length);
+    }
+    ByteLength(0)
 }
 
 fn ipdu_of(r: IpduRecord) -> Ipdu

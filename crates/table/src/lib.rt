@@ -7,6 +7,7 @@ mod search;
 
 pub use decode::decode_ipdu;
 pub use decode::decode_object;
+pub use decode::ipdu_length;
 pub use records::header_counts;
 pub use records::ipdu_record;
 pub use records::object_record;
