@@ -87,12 +87,33 @@ static inline int birnenschloss_is_requested(uint32_t word, uint32_t ipdu)
     return ipdu < 32 && (word >> ipdu & 1) != 0;
 }
 
+/* What the number of an answer means, in words. */
+static inline const char *birnenschloss_number_text(uint32_t number)
+{
+    static const char *const texts[] = {
+        "done",
+        "no such message object or I-PDU, or not of the kind that the call needs",
+        "not as many bytes as the I-PDU has",
+        "the queue has lost a value since the last receive",
+        "the queue is empty",
+        "the table is wrong",
+        "memory or request area refused: ask if they have 8192 and 256 bytes, and if the layer was started over this table",
+        "the layer is stopped, or was never started",
+        "no request of this I-PDU is open",
+    };
+    return number < sizeof texts / sizeof texts[0] ? texts[number] : "none of the layer's numbers";
+}
+
 #ifdef __cplusplus
 extern "C" {
 #endif
 
 /* Checks a table. Answers 0, or 5 with the place of the first wrong record. */
 birnenschloss_answer birnenschloss_check(const uint8_t *table, size_t table_length);
+
+/* The length of an I-PDU in bytes, 1 to 8; 0 where the table is wrong or has no such I-PDU. Checks
+ * the whole table each time: ask once, not at each frame. */
+uint32_t birnenschloss_ipdu_length(const uint8_t *table, size_t table_length, uint32_t ipdu);
 
 /* Starts the layer, or starts it again: writes all 8192 bytes, from the table alone. I-PDUs and
  * receive objects get the initial values; queues are empty, marks clear, no period runs. It comes

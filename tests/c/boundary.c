@@ -16,6 +16,7 @@ enum { READING, QUEUE, LAST, INSIDE, WIDE, NO_OBJECT };
 enum { RUNS = 1, STOPPED = 1 - RUNS };
 
 #define TABLE_SIZE 224
+#define ZEROS 0, 0, 0, 0, 0, 0, 0, 0, 0, 0, 0, 0, 0, 0, 0, 0 /* half a record of an object */
 
 static const uint8_t right_table[TABLE_SIZE] = {
     /* 3 I-PDUs, 5 message objects, records at 16 and 64, 224 bytes */
@@ -27,32 +28,25 @@ static const uint8_t right_table[TABLE_SIZE] = {
     /* periodic: sent, 8 bytes, period 4, offset 2, deadline 2 */
     1, 8, 1, 0, 4, 0, 2, 0, 0, 0, 2, 0, 0, 0, 0, 0,
     /* reading: sent in direct, bit 13, 12 bits, little, triggered, filter 5 */
-    1, 0, 255, 13, 12, 0, 0, 0, 5, 0, 0, 0, 0, 0, 0, 0,
-    0, 0, 0, 0, 0, 0, 0, 0, 0, 0, 0, 0, 0, 0, 0, 0,
+    1, 0, 255, 13, 12, 0, 0, 0, 5, 0, 0, 0, 0, 0, 0, 0, ZEROS,
     /* queue: received in incoming, bit 0, 8 bits, depth 2 */
-    2, 1, 255, 0, 8, 0, 0, 2, 0, 0, 0, 0, 0, 0, 0, 0,
-    0, 0, 0, 0, 0, 0, 0, 0, 0, 0, 0, 0, 0, 0, 0, 0,
+    2, 1, 255, 0, 8, 0, 0, 2, 0, 0, 0, 0, 0, 0, 0, 0, ZEROS,
     /* last: received in incoming, bit 8, 8 bits, unqueued, initial value 90 */
-    2, 1, 255, 8, 8, 0, 0, 0, 0, 0, 0, 0, 90, 0, 0, 0,
-    0, 0, 0, 0, 0, 0, 0, 0, 0, 0, 0, 0, 0, 0, 0, 0,
+    2, 1, 255, 8, 8, 0, 0, 0, 0, 0, 0, 0, 90, 0, 0, 0, ZEROS,
     /* inside: receives what reading sends, unqueued, initial value hex 04030201 */
-    2, 255, 0, 0, 32, 0, 0, 0, 0, 0, 0, 0, 1, 2, 3, 4,
-    0, 0, 0, 0, 0, 0, 0, 0, 0, 0, 0, 0, 0, 0, 0, 0,
+    2, 255, 0, 0, 32, 0, 0, 0, 0, 0, 0, 0, 1, 2, 3, 4, ZEROS,
     /* wide: sent in periodic, bit 24, 32 bits, big, triggered, filter 0 */
-    1, 2, 255, 24, 32, 1, 0, 0, 0, 0, 0, 0, 0, 0, 0, 0,
-    0, 0, 0, 0, 0, 0, 0, 0, 0, 0, 0, 0, 0, 0, 0, 0,
+    1, 2, 255, 24, 32, 1,
 };
 
 /* Case 12's table, and one whose only object has a queue of 2, in a received I-PDU of a byte. */
 static const uint8_t case_12[64] = {
     1, 0, 1, 0, 16, 0, 32, 0, 64, 0, 0, 0, 0, 0, 0, 0,
-    1, 4, 0, 0, 0, 0, 0, 0, 3, 0, 10, 0, 0, 0, 0, 0,
-    1, 0, 255, 13, 12, 0, 0, 0, 5,
+    1, 4, 0, 0, 0, 0, 0, 0, 3, 0, 10, 0, 0, 0, 0, 0, 1, 0, 255, 13, 12, 0, 0, 0, 5,
 };
 static const uint8_t one_queue[64] = {
     1, 0, 1, 0, 16, 0, 32, 0, 64, 0, 0, 0, 0, 0, 0, 0,
-    2, 1, 0, 0, 0, 0, 0, 0, 0, 0, 0, 0, 0, 0, 0, 0,
-    2, 0, 255, 0, 8, 0, 0, 2,
+    2, 1, 0, 0, 0, 0, 0, 0, 0, 0, 0, 0, 0, 0, 0, 0, 2, 0, 255, 0, 8, 0, 0, 2,
 };
 
 /* What is lent, with five and three bytes that no call may touch at the ends. */
@@ -94,6 +88,11 @@ static void note_bytes(void) { memcpy(&before, &lent, sizeof lent); }
 #define ANSWERS(call, number, value) answered(call, number, value, __LINE__)
 #define REQUIRE(condition) require(condition, __LINE__, "does not hold: " #condition)
 #define SAME_BYTES() require(memcmp(&before, &lent, sizeof lent) == 0, __LINE__, "bytes changed")
+#define LENGTH(n, ipdu, length) \
+    (answers++, REQUIRE(birnenschloss_ipdu_length(lent.table, n, ipdu) == (length)))
+#define WRONG(n, place) \
+    (ANSWERS(birnenschloss_check(lent.table, n), 5, place), LENGTH(n, 0, 0), LENGTH(n, 2, 0))
+#define TEXT(number) birnenschloss_number_text(number)
 
 /* A call that must be refused, and leave all lent bytes. */
 #define REFUSES(call, number)     \
@@ -135,25 +134,46 @@ static void fresh(uint8_t filling)
     memcpy(lent.table, right_table, TABLE_SIZE);
 }
 
-/* The check's places: header, I-PDU, object. */
-static void places(void)
+/* The check's places, header, I-PDU, object, and the lengths of I-PDUs: 0 over a wrong table. */
+static void tables(void)
 {
+    static const uint32_t lengths[] = {4, 2, 8}, no_ipdu[] = {3, 31, 32, 255, 256, 0xFFFFFFFF};
     size_t n;
     fresh(0xA5);
+    lent.table[65] = PERIODIC, lent.table[67] = 40; /* reading: no 0 behind the I-PDUs */
     note_bytes();
     ANSWERS(birnenschloss_check(lent.table, TABLE_SIZE), E_OK, 0);
+    for (n = 0; n < 3; n++)
+        LENGTH(TABLE_SIZE, n, lengths[n]);
+    for (n = 0; n < 6; n++)
+        LENGTH(TABLE_SIZE, no_ipdu[n], 0);
     for (n = 0; n < TABLE_SIZE; n++)
-        ANSWERS(birnenschloss_check(lent.table, n), BIRNENSCHLOSS_E_TABLE,
-                BIRNENSCHLOSS_PLACE_HEADER);
+        WRONG(n, BIRNENSCHLOSS_PLACE_HEADER);
     SAME_BYTES();
     lent.table[64 + 4 * 32 + 4] = 33; /* bits of wide */
-    ANSWERS(birnenschloss_check(lent.table, TABLE_SIZE), 5, BIRNENSCHLOSS_PLACE_OBJECT + WIDE);
+    WRONG(TABLE_SIZE, BIRNENSCHLOSS_PLACE_OBJECT + WIDE);
     lent.table[64 + 32 + 7] = 17; /* depth of queue */
-    ANSWERS(birnenschloss_check(lent.table, TABLE_SIZE), 5, 256 + QUEUE);
+    WRONG(TABLE_SIZE, 256 + QUEUE);
     lent.table[16 + 2 * 16] = 3; /* direction of periodic */
-    ANSWERS(birnenschloss_check(lent.table, TABLE_SIZE), 5, PERIODIC);
+    WRONG(TABLE_SIZE, PERIODIC);
     lent.table[4] = 17; /* offset of the I-PDU records */
-    ANSWERS(birnenschloss_check(lent.table, TABLE_SIZE), 5, 65535);
+    WRONG(TABLE_SIZE, 65535);
+}
+
+/* The texts of the numbers: of one line, with no stop, no two alike; 9 is none of the layer's. */
+static void texts(void)
+{
+    const char *memory = TEXT(BIRNENSCHLOSS_E_MEMORY);
+    uint32_t n, k;
+    for (n = 0; n <= 9; n++) {
+        REQUIRE(strlen(TEXT(n)) > 0 && !strpbrk(TEXT(n), ".\n"));
+        for (k = 0; k < n; k++)
+            REQUIRE(strcmp(TEXT(n), TEXT(k)) != 0);
+    }
+    for (n = 9; n != 0; n *= 2)
+        REQUIRE(strcmp(TEXT(n), TEXT(0xFFFFFFFF)) == 0);
+    REQUIRE(strstr(memory, "8192") && strstr(memory, "256") && strstr(memory, "start"));
+    REQUIRE(strstr(TEXT(E_OK), "done") && strstr(TEXT(BIRNENSCHLOSS_E_NOT_REQUESTED), "request"));
 }
 
 /* Numbers 5 and 6, for every call, and their order. */
@@ -366,7 +386,8 @@ static void zeros(void)
 int main(void)
 {
     zeros();
-    places();
+    tables();
+    texts();
     too_short();
     start();
     identifiers();

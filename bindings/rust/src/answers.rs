@@ -64,16 +64,20 @@ impl From<WrongRecord> for Error {
     }
 }
 
+/// The words of birnenschloss_number_text in the C header.
 impl fmt::Display for Error {
     fn fmt(&self, f: &mut fmt::Formatter<'_>) -> fmt::Result {
         f.write_str(match self {
-            Error::Id => "number too large or of the wrong kind",
+            Error::Id => "no such message object or I-PDU, or not of the kind that the call needs",
             Error::Length => "not as many bytes as the I-PDU has",
             Error::NoMessage => "the queue is empty",
             Error::Table => "the table is wrong",
-            Error::Memory => "a stored number is out of its range",
-            Error::Stopped => "the layer is stopped",
-            Error::NoRequest => "no request is open",
+            Error::Memory => {
+                "memory or request area refused: ask if they have 8192 and 256 bytes, \
+                 and if the layer was started over this table"
+            }
+            Error::Stopped => "the layer is stopped, or was never started",
+            Error::NoRequest => "no request of this I-PDU is open",
         })
     }
 }

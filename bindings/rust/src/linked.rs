@@ -3,7 +3,7 @@
 //! A slice goes over as its start and its length. The start of a Rust slice is never null, also
 //! of an empty one. The functions are proved to stay inside what they are lent, for any contents.
 //! Nothing checks these declarations against the proved source; tests/calls.rs compares the
-//! behaviour of each with an independent layer.
+//! behaviour of each with an independent layer, and the test in table.rs that of ipdu_length.
 
 /// A number and what is returned with it.
 #[repr(C)]
@@ -16,6 +16,8 @@ pub struct Answer {
 #[rustfmt::skip]
 extern "C" {
     fn birnenschloss_check(t: *const u8, tn: usize) -> Answer;
+    #[cfg(test)]
+    fn birnenschloss_ipdu_length(t: *const u8, tn: usize, ipdu: u32) -> u32;
     fn birnenschloss_start(t: *const u8, tn: usize, m: *mut u8, mn: usize) -> Answer;
     fn birnenschloss_stop(t: *const u8, tn: usize, m: *mut u8, mn: usize) -> Answer;
     fn birnenschloss_send(
@@ -48,6 +50,13 @@ extern "C" {
 pub fn check(t: &[u8]) -> Answer {
     // SAFETY: t is lent for the whole call.
     unsafe { birnenschloss_check(t.as_ptr(), t.len()) }
+}
+
+/// Checks the whole table, so only tests call it: a checked [`Table`](crate::Table) has the length.
+#[cfg(test)]
+pub fn ipdu_length(t: &[u8], ipdu: u32) -> u32 {
+    // SAFETY: t is lent for the whole call.
+    unsafe { birnenschloss_ipdu_length(t.as_ptr(), t.len(), ipdu) }
 }
 
 pub fn start(t: &[u8], m: &mut [u8]) -> Answer {

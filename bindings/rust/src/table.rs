@@ -117,3 +117,71 @@ impl fmt::Display for WrongRecord {
 }
 
 impl core::error::Error for WrongRecord {}
+
+#[cfg(test)]
+mod tests {
+    extern crate std;
+    use super::*;
+    use std::vec::Vec;
+
+    /// The archive's length of an I-PDU, after the same by [`Table::ipdu_length`].
+    fn length(bytes: &[u8], ipdu: u32) -> u32 {
+        let checked = Table::check(bytes).ok().and_then(|t| t.ipdu_length(IpduNumber(ipdu)));
+        let length = linked::ipdu_length(bytes, ipdu);
+        assert_eq!(length as usize, checked.unwrap_or(0), "I-PDU {ipdu} of {bytes:?}");
+        length
+    }
+
+    /// Of I-PDUs 0 to 33, and 0 for larger numbers.
+    fn lengths(bytes: &[u8]) -> Vec<u32> {
+        for ipdu in [255, 256, 65535, 65536, 1 << 31, u32::MAX] {
+            assert_eq!(length(bytes, ipdu), 0);
+        }
+        (0..=33).map(|ipdu| length(bytes, ipdu)).collect()
+    }
+
+    /// A table of received I-PDUs with lengths 1 to 8, again and again, and no object.
+    fn received(ipdus: u8) -> Vec<u8> {
+        let end = 16 + 16 * u16::from(ipdus);
+        let [low, high] = end.to_le_bytes();
+        let mut bytes = [&[ipdus, 0, 0, 0, 16, 0, low, high, low, high][..], &[0; 6]].concat();
+        for k in 0..ipdus {
+            bytes.extend([2, 1 + k % 8]);
+            bytes.extend([0; 14]);
+        }
+        bytes
+    }
+
+    #[test]
+    fn the_archive_agrees_in_lengths() {
+        for ipdus in [0, 1, 2, 31, 32, 33] {
+            let bytes = received(ipdus);
+            let there = if ipdus <= 32 { ipdus.into() } else { 0 };
+            let wanted = (0..34).map(|k| if k < there { 1 + k % 8 } else { 0 });
+            assert!(wanted.eq(lengths(&bytes)), "{ipdus} I-PDUs");
+            for cut in 0..bytes.len() {
+                assert_eq!(lengths(&bytes[..cut]), [0; 34]);
+            }
+        }
+    }
+
+    /// Each byte of a table of two I-PDUs and an object is changed, so that most are wrong.
+    #[test]
+    fn and_over_changed_tables() {
+        let mut right = received(2);
+        right[2] = 1;
+        right[8] = 80;
+        right.extend([2, 1, 255, 4, 12]);
+        right.extend([0; 27]);
+        assert_eq!(lengths(&right)[..3], [1, 2, 0]);
+        let mut accepted = 0;
+        for at in 0..right.len() {
+            for byte in 0..=255 {
+                let mut changed = right.clone();
+                changed[at] = byte;
+                accepted += u32::from(lengths(&changed)[0] > 0);
+            }
+        }
+        assert!((100..10_000).contains(&accepted), "{accepted} right");
+    }
+}

@@ -56,6 +56,31 @@ fn the_errors_have_their_numbers() {
     });
 }
 
+/// The texts of birnenschloss_number_text, from 0 on; the last is that of any other number.
+fn texts() -> Vec<&'static str> {
+    let header = include_str!("../../../include/birnenschloss.h");
+    let (_, function) = header.split_once("birnenschloss_number_text(uint32_t number)\n").unwrap();
+    let (body, _) = function.split_once("\n}\n").unwrap();
+    body.split('"').skip(1).step_by(2).collect()
+}
+
+#[test]
+fn the_errors_say_what_the_header_says() {
+    let texts = texts();
+    assert_eq!(texts.len(), 10);
+    for error in [
+        Error::Id,
+        Error::Length,
+        Error::NoMessage,
+        Error::Table,
+        Error::Memory,
+        Error::Stopped,
+        Error::NoRequest,
+    ] {
+        assert_eq!(error.to_string(), texts[error.number() as usize]);
+    }
+}
+
 fn never_started() -> Error {
     let (bytes, mut memory) = (table_bytes(), [0xA5; MEMORY_SIZE]);
     let mut layer = Layer::new(Table::check(&bytes).unwrap(), Memory::from(&mut memory));

@@ -24,7 +24,7 @@ use Rattle.state.specs.Updates.{withMarks, withWanted}
 use Rattle.state.specs.Ranges.{Ready}
 use Rattle.state.proofs.Ready.{ready-bytes}
 use Rattle.message.specs.Objects.{object, Held, Placed, markSent, markSendError, markReceiveError, passesFilter, afterFilter, oldest, dequeue, pack, initialise}
-use Rattle.message.specs.Delivery.{deliverInside, deliverFrame, markObjects}
+use Rattle.delivery.specs.Delivery.{deliverInside, deliverFrame, markObjects}
 use Rattle.message.proofs.RingPlaces.{placed-after}
 use Rattle.message.proofs.ObjectsInRange.{right-start, ready-held, decoded-placed}
 use Rattle.transmission.specs.Requests.{ipdu, isDue, afterRequest, copiedToArea, confirmed, timerSet}

@@ -26,13 +26,16 @@ use Rattle.state.specs.Ranges.{Ready}
 use Rattle.state.proofs.Ready.{ready-kept, ready-object}
 use Rattle.state.proofs.Running.{ready-running}
 use Rattle.message.specs.Objects.{object, around, dequeued, dequeue, pack, initialiseAs, initialise, markSent, markReceiveError, markSendError}
-use Rattle.message.specs.Delivery.{deliverFrame, markObjects}
+use Rattle.delivery.specs.Delivery.{deliverFrame, markObjects}
 use Rattle.message.proofs.RingPlaces.{around-lt}
-use Rattle.message.proofs.ObjectsInRange.{kept-old, kept-value, kept-marks, kept-queue, ready-pack, ready-frame, ready-mark}
-use Rattle.transmission.specs.Requests.{ipdu, afterRequest, confirmed, setPeriods}
-use Rattle.transmission.specs.Ticks.{tickDelay, deadlineExpires, tickDeadline, tickPeriod, timerExpires, tickTimer}
-use Rattle.transmission.proofs.RequestsInRange.{ready-send-row, ready-receive-row, kept-wanted, kept-offered, kept-confirmed, ready-send-kept, ready-receive-kept, ready-periods, ready-timer}
-use Rattle.transmission.proofs.TicksInRange.{kept-tick-delay, kept-tick-deadline, kept-tick-period, kept-tick-timer}
+use Rattle.message.proofs.ObjectsInRange.{kept-old, kept-value, kept-marks, kept-queue, ready-pack}
+use Rattle.delivery.proofs.DeliveriesInRange.{ready-frame, ready-mark}
+use Rattle.transmission.specs.Requests.{ipdu, afterRequest, confirmed}
+use Rattle.timing.specs.Periods.{setPeriods}
+use Rattle.timing.specs.Ticks.{tickDelay, deadlineExpires, tickDeadline, tickPeriod, timerExpires, tickTimer}
+use Rattle.transmission.proofs.RequestsInRange.{ready-send-row, ready-receive-row, kept-wanted, kept-offered, kept-confirmed, ready-send-kept, ready-receive-kept, ready-timer}
+use Rattle.timing.proofs.PeriodsInRange.{ready-periods}
+use Rattle.timing.proofs.TicksInRange.{kept-tick-delay, kept-tick-deadline, kept-tick-period, kept-tick-timer}
 use Rattle.calls.specs.Answers.{Outcome}
 use Rattle.calls.specs.Calls.{isObject, isIpdu, stopIn, wants, request, sendIn, initialiseIn, receiveIn, statusIn, marksIn, clearMarksIn, periodicIn, indicationIn, confirmIn}
 use Rattle.calls.specs.Tick.{TickResult, tickAs, tickIpdu, tickResult, tickTurn, ticks, tickIn}

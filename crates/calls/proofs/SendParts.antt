@@ -18,8 +18,9 @@ use Rattle.state.specs.Layout.{objectState, withObjectState}
 use Rattle.state.specs.Ranges.{Ready}
 use Rattle.state.proofs.Ready.{ready-kept, ready-object}
 use Rattle.message.specs.Objects.{object, passesFilter, afterFilter, startBit, pack}
-use Rattle.message.specs.Delivery.{deliverInside}
-use Rattle.message.proofs.ObjectsInRange.{kept-after-filter, ready-inside}
+use Rattle.delivery.specs.Delivery.{deliverInside}
+use Rattle.message.proofs.ObjectsInRange.{kept-after-filter}
+use Rattle.delivery.proofs.DeliveriesInRange.{ready-inside}
 use Rattle.calls.specs.declared.Answer.the-variants.{Done}
 use Rattle.calls.specs.Answers.{outcome}
 use Rattle.calls.specs.Calls.{isObject, request, sendOf, sendIn}

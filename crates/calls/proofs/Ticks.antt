@@ -15,7 +15,7 @@ use Rattle.table.specs.Decode.{ipduOf, Right}
 use Rattle.state.specs.Layout.{ipduState}
 use Rattle.memory.proofs.Search.{turn-more, turns-done}
 use Rattle.transmission.specs.Requests.{ipdu, isDue}
-use Rattle.transmission.specs.Ticks.{tickDelay, tickDeadline, tickPeriod}
+use Rattle.timing.specs.Ticks.{tickDelay, tickDeadline, tickPeriod}
 use Rattle.calls.specs.declared.Answer.the-variants.{Done}
 use Rattle.calls.specs.Answers.{Outcome, outcome, valueOf}
 use Rattle.calls.proofs.Records.{ipdu-short}

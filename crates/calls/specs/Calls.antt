@@ -21,8 +21,9 @@ use Rattle.state.specs.declared.ObjectState.{ObjectState}
 use Rattle.state.specs.Layout.{withRunning, slotAt, ipduState, withIpduState, objectState, withObjectState}
 use Rattle.state.specs.Updates.{withMarks, withWanted}
 use Rattle.message.specs.Objects.{object, markSent, markReceiveError, markSendError, passesFilter, afterFilter, oldest, dequeue, pack, initialise}
-use Rattle.message.specs.Delivery.{deliverInside, deliverFrame, markObjects}
-use Rattle.transmission.specs.Requests.{ipdu, isDue, afterRequest, copiedToArea, confirmed, setPeriods, timerSet}
+use Rattle.delivery.specs.Delivery.{deliverInside, deliverFrame, markObjects}
+use Rattle.transmission.specs.Requests.{ipdu, isDue, afterRequest, copiedToArea, confirmed, timerSet}
+use Rattle.timing.specs.Periods.{setPeriods}
 use Rattle.calls.specs.declared.Answer.{Answer}
 use Rattle.calls.specs.declared.Answer.the-variants.{Done, WrongId, WrongLength, Limit, NoMessage, NotRequested}
 use Rattle.calls.specs.Answers.{Outcome, outcome}

@@ -9,9 +9,9 @@ use Rattle.table.specs.declared.Direction.the-variants.{Send, Receive}
 use Rattle.state.specs.declared.IpduState.{IpduState}
 use Rattle.state.specs.Layout.{ipduState, withIpduState}
 use Rattle.message.specs.Objects.{markReceiveError, markSendError}
-use Rattle.message.specs.Delivery.{markObjects}
+use Rattle.delivery.specs.Delivery.{markObjects}
 use Rattle.transmission.specs.Requests.{ipdu}
-use Rattle.transmission.specs.Ticks.{tickDelay, deadlineExpires, tickDeadline, tickPeriod, timerExpires, tickTimer}
+use Rattle.timing.specs.Ticks.{tickDelay, deadlineExpires, tickDeadline, tickPeriod, timerExpires, tickTimer}
 use Rattle.calls.specs.declared.Answer.the-variants.{Done}
 use Rattle.calls.specs.Answers.{Outcome, outcome, valueOf}
 use Rattle.calls.specs.Calls.{tryRequest}

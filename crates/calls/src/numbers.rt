@@ -7,7 +7,7 @@ ghost use Rattle.table.specs.Check.{Shape};
 ghost use Rattle.calls.specs.Calls.{isObject, isIpdu};
 
 // Whether there is an object of this number and kind.
-pub(crate) fn is_object(t: &[u8], c: Counts, kind: u32, number: ObjectNumber) -> bool
+pub fn is_object(t: &[u8], c: Counts, kind: u32, number: ObjectNumber) -> bool
     requires { ⌜ Shape (now t) c ⌝ }
     ensures { λ r. ⌜ r ≡ isObject (now (t .entry)) c kind (number .0) ⌝ }
 {
@@ -20,7 +20,7 @@ pub(crate) fn is_object(t: &[u8], c: Counts, kind: u32, number: ObjectNumber) ->
 }
 
 // Whether there is an I-PDU of this number and direction.
-pub(crate) fn is_ipdu(t: &[u8], c: Counts, direction: u32, number: IpduNumber) -> bool
+pub fn is_ipdu(t: &[u8], c: Counts, direction: u32, number: IpduNumber) -> bool
     requires { ⌜ Shape (now t) c ⌝ }
     ensures { λ r. ⌜ r ≡ isIpdu (now (t .entry)) c direction (number .0) ⌝ }
 {

@@ -11,9 +11,10 @@ use Rattle.table.specs.Decode.{ipduOf, objectOf}
 use Rattle.state.specs.Layout.{runningAt, withRunning, ipduState, withIpduState, objectState, withObjectState}
 use Rattle.state.specs.Ranges.{ipduInRange, objectInRange, inRange}
 use Rattle.message.specs.Objects.{marked, afterFilter, delivered, deliver, oldest, dequeue, pack, unpack, initialise}
-use Rattle.message.specs.Delivery.{deliverInside, deliverFrame, markObjects}
-use Rattle.transmission.specs.Requests.{isDue, requestMade, afterRequest, copiedToArea, confirmed, periodSet, setPeriods, timerSet}
-use Rattle.transmission.specs.Ticks.{tickDelay, deadlineExpires, tickDeadline, periodElapses, tickPeriod, timerExpires, tickTimer}
+use Rattle.delivery.specs.Delivery.{deliverInside, deliverFrame, markObjects}
+use Rattle.transmission.specs.Requests.{isDue, requestMade, afterRequest, copiedToArea, confirmed, timerSet}
+use Rattle.timing.specs.Periods.{periodSet, setPeriods}
+use Rattle.timing.specs.Ticks.{tickDelay, deadlineExpires, tickDeadline, periodElapses, tickPeriod, timerExpires, tickTimer}
 use Rattle.layer.specs.Admission.{admission, startAdmission}
 use Rattle.calls.specs.Calls.{stopIn, wants, request, sendOf, sendIn, initialiseIn, receiveIn, statusIn, marksIn, clearMarksIn, periodicIn, indicationIn, confirmIn}
 use Rattle.calls.specs.Tick.{tickIpdu, tickIn}

@@ -149,14 +149,14 @@ fn call(
 {
     match command {
         Command::Start => Answer::Stopped,
-        Command::Stop => calls::stop(m),
-        Command::Send(i, v) => calls::send(t, c, m, area, i, v),
-        Command::Initialise(i, v) => calls::initialise(t, c, m, i, v),
+        Command::Stop => ipdu_calls::stop(m),
+        Command::Send(i, v) => object_calls::send(t, c, m, area, i, v),
+        Command::Initialise(i, v) => object_calls::initialise(t, c, m, i, v),
         Command::Object(ask, i) => call_of_object(t, c, m, ask, i),
-        Command::Periodic(on) => calls::periodic(t, c, m, on),
-        Command::Indication(k, good) => calls::indication(t, c, m, k, good, bytes),
-        Command::Confirm(k, good) => calls::confirm(t, c, m, k, good),
-        Command::Tick => calls::tick(t, c, m, area),
+        Command::Periodic(on) => ipdu_calls::periodic(t, c, m, on),
+        Command::Indication(k, good) => ipdu_calls::indication(t, c, m, k, good, bytes),
+        Command::Confirm(k, good) => ipdu_calls::confirm(t, c, m, k, good),
+        Command::Tick => ipdu_calls::tick(t, c, m, area),
     }
 }
 
@@ -166,9 +166,9 @@ fn call_of_object(t: &[u8], c: Counts, m: &mut [u8], ask: Ask, i: ObjectNumber) 
     ensures { λ _. ⌜ Ready (now (t .entry)) c (now (m .exit)) ⌝ }
 {
     match ask {
-        Ask::Receive => calls::receive(t, c, m, i),
-        Ask::Status => calls::status(t, c, m, i),
-        Ask::Marks => calls::marks(t, c, m, i),
-        Ask::ClearMarks => calls::clear_marks(t, c, m, i),
+        Ask::Receive => object_calls::receive(t, c, m, i),
+        Ask::Status => object_calls::status(t, c, m, i),
+        Ask::Marks => object_calls::marks(t, c, m, i),
+        Ask::ClearMarks => object_calls::clear_marks(t, c, m, i),
     }
 }

@@ -30,7 +30,7 @@ pub fn stop(t: &[u8], m: &mut [u8]) -> Answer
 {
     let admission = checks::admit(t, m, true);
     match admission {
-        Admission::Admitted(c) => calls::stop(&mut m[..MEMORY_SIZE]),
+        Admission::Admitted(c) => ipdu_calls::stop(&mut m[..MEMORY_SIZE]),
         Admission::Refused(answer) => answer,
     }
 }
@@ -42,7 +42,7 @@ pub fn send(t: &[u8], m: &mut [u8], area: &mut [u8], number: ObjectNumber, v: u3
 {
     let admission = checks::admit(t, m, area.len() >= AREA_SIZE);
     match admission {
-        Admission::Admitted(c) => calls::send(t, c, &mut m[..MEMORY_SIZE], area, number, v),
+        Admission::Admitted(c) => object_calls::send(t, c, &mut m[..MEMORY_SIZE], area, number, v),
         Admission::Refused(answer) => answer,
     }
 }
@@ -53,7 +53,7 @@ pub fn initialise(t: &[u8], m: &mut [u8], number: ObjectNumber, v: u32) -> Answe
 {
     let admission = checks::admit(t, m, true);
     match admission {
-        Admission::Admitted(c) => calls::initialise(t, c, &mut m[..MEMORY_SIZE], number, v),
+        Admission::Admitted(c) => object_calls::initialise(t, c, &mut m[..MEMORY_SIZE], number, v),
         Admission::Refused(answer) => answer,
     }
 }
@@ -64,7 +64,7 @@ pub fn receive(t: &[u8], m: &mut [u8], number: ObjectNumber) -> Answer
 {
     let admission = checks::admit(t, m, true);
     match admission {
-        Admission::Admitted(c) => calls::receive(t, c, &mut m[..MEMORY_SIZE], number),
+        Admission::Admitted(c) => object_calls::receive(t, c, &mut m[..MEMORY_SIZE], number),
         Admission::Refused(answer) => answer,
     }
 }
@@ -75,7 +75,7 @@ pub fn status(t: &[u8], m: &[u8], number: ObjectNumber) -> Answer
 {
     let admission = checks::admit(t, m, true);
     match admission {
-        Admission::Admitted(c) => calls::status(t, c, &m[..MEMORY_SIZE], number),
+        Admission::Admitted(c) => object_calls::status(t, c, &m[..MEMORY_SIZE], number),
         Admission::Refused(answer) => answer,
     }
 }
@@ -86,7 +86,7 @@ pub fn marks(t: &[u8], m: &[u8], number: ObjectNumber) -> Answer
 {
     let admission = checks::admit(t, m, true);
     match admission {
-        Admission::Admitted(c) => calls::marks(t, c, &m[..MEMORY_SIZE], number),
+        Admission::Admitted(c) => object_calls::marks(t, c, &m[..MEMORY_SIZE], number),
         Admission::Refused(answer) => answer,
     }
 }
@@ -97,7 +97,7 @@ pub fn clear_marks(t: &[u8], m: &mut [u8], number: ObjectNumber) -> Answer
 {
     let admission = checks::admit(t, m, true);
     match admission {
-        Admission::Admitted(c) => calls::clear_marks(t, c, &mut m[..MEMORY_SIZE], number),
+        Admission::Admitted(c) => object_calls::clear_marks(t, c, &mut m[..MEMORY_SIZE], number),
         Admission::Refused(answer) => answer,
     }
 }
@@ -108,7 +108,7 @@ pub fn start_periodic(t: &[u8], m: &mut [u8]) -> Answer
 {
     let admission = checks::admit(t, m, true);
     match admission {
-        Admission::Admitted(c) => calls::periodic(t, c, &mut m[..MEMORY_SIZE], true),
+        Admission::Admitted(c) => ipdu_calls::periodic(t, c, &mut m[..MEMORY_SIZE], true),
         Admission::Refused(answer) => answer,
     }
 }
@@ -119,7 +119,7 @@ pub fn stop_periodic(t: &[u8], m: &mut [u8]) -> Answer
 {
     let admission = checks::admit(t, m, true);
     match admission {
-        Admission::Admitted(c) => calls::periodic(t, c, &mut m[..MEMORY_SIZE], false),
+        Admission::Admitted(c) => ipdu_calls::periodic(t, c, &mut m[..MEMORY_SIZE], false),
         Admission::Refused(answer) => answer,
     }
 }
@@ -130,7 +130,7 @@ pub fn indication(t: &[u8], m: &mut [u8], number: IpduNumber, good: bool, bytes:
 {
     let admission = checks::admit(t, m, true);
     match admission {
-        Admission::Admitted(c) => calls::indication(
+        Admission::Admitted(c) => ipdu_calls::indication(
             t,
             c,
             &mut m[..MEMORY_SIZE],
@@ -148,7 +148,7 @@ pub fn confirm(t: &[u8], m: &mut [u8], number: IpduNumber, good: bool) -> Answer
 {
     let admission = checks::admit(t, m, true);
     match admission {
-        Admission::Admitted(c) => calls::confirm(t, c, &mut m[..MEMORY_SIZE], number, good),
+        Admission::Admitted(c) => ipdu_calls::confirm(t, c, &mut m[..MEMORY_SIZE], number, good),
         Admission::Refused(answer) => answer,
     }
 }
@@ -160,7 +160,7 @@ pub fn tick(t: &[u8], m: &mut [u8], area: &mut [u8]) -> Answer
 {
     let admission = checks::admit(t, m, area.len() >= AREA_SIZE);
     match admission {
-        Admission::Admitted(c) => calls::tick(t, c, &mut m[..MEMORY_SIZE], area),
+        Admission::Admitted(c) => ipdu_calls::tick(t, c, &mut m[..MEMORY_SIZE], area),
         Admission::Refused(answer) => answer,
     }
 }

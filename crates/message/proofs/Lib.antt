@@ -2,5 +2,3 @@ pub mod RingPlaces
 pub mod ObjectsInRange
 pub mod Apart
 pub mod Queues
-pub mod Deliveries
-pub mod Turns

@@ -12,9 +12,8 @@ use lib.Bits.{bitOr, or-lt}
 use lib.Dec.{ltb, eqb}
 use lib.ListN.{length}
 use Rattle.memory.specs.Bytes.{bytesOf, part, replaced}
-use Rattle.memory.specs.Search.{pick, fold}
+use Rattle.memory.specs.Search.{pick}
 use Rattle.memory.proofs.Parts.{bytesOf-length, bytesOf-bytes, part-length, replaced-length}
-use Rattle.memory.proofs.Search.{picked, fold-keeps}
 use Rattle.memory.proofs.Tests.{true-or-false}
 use Rattle.bits.specs.Bits.{packed}
 use Rattle.bits.proofs.RoundTrip.{packed-length, packed-bytes, unpacked-lt}
@@ -26,12 +25,11 @@ use Rattle.table.specs.Check.{depths}
 use Rattle.table.specs.Decode.{objectOf, Right}
 use Rattle.table.proofs.Accepted.{usable}
 use Rattle.state.specs.declared.ObjectState.{ObjectState}
-use Rattle.state.specs.Layout.{memorySize, slotAt, objectState, withObjectState}
+use Rattle.state.specs.Layout.{memorySize, slotAt, objectState}
 use Rattle.state.specs.Updates.{withOld, withValue, withMarks, withQueue}
 use Rattle.state.specs.Ranges.{Ready}
 use Rattle.state.proofs.Ready.{ObjectKept, in-queues, ready-kept, ready-object, ready-bytes}
 use Rattle.message.specs.Objects.{object, Held, Placed, marked, passesFilter, afterFilter, placeAt, stored, delivered, enters, deliver, startBit, pack, unpack}
-use Rattle.message.specs.Delivery.{insideTurn, frameTurn, markTurn}
 use Rattle.message.proofs.RingPlaces.{queue-room}
 
 -- ---- rows
@@ -262,35 +260,3 @@ unpack-lt t c m ready i h =
     let low = ready-placed t c m ready i h .slot .most in
     lt-of-lt-of-le (unpacked-lt (o .order) (startBit o) (o .size .0) (part (slotAt (o .ipdu .0)) 8 m))
     (native.Mathlib.Nat.pow-le-pow-right (zero-lt-suc 1) low)
-
-module _ (t : List ℕ) (c : Counts) where
-  pub ready-inside-turn : (sender v : ℕ) → v < 2 ^ 32 → (i : ℕ) → i < c .objects → (m : List ℕ) → Ready t c m
-      → Ready t c (insideTurn t c sender v i m)
-  ready-inside-turn sender v low i h m ready =
-      picked (Ready t c) (eqb (objectRecord t (c .ipdus) i .sender) sender) (deliver (object t c i) i v m) m
-      (λ e. ready-deliver t c m ready i h v low) (λ e. ready)
-
-  pub ready-inside : (sender v n : ℕ) → v < 2 ^ 32 → n ≤ c .objects → (m : List ℕ) → Ready t c m → Ready t c (fold n (insideTurn t c sender v) m)
-  ready-inside sender v n low h =
-      fold-keeps (Ready t c) n (insideTurn t c sender v) (λ i b. ready-inside-turn sender v low i (omega (arith, b, h)))
-
-  pub ready-frame : (k n : ℕ) → n ≤ c .objects → (m : List ℕ) → Ready t c m → Ready t c (fold n (frameTurn t c k) m)
-  ready-frame k n h = fold-keeps (Ready t c) n (frameTurn t c k) turn
-    where
-      turn : (i : ℕ) → i < n → (m : List ℕ) → Ready t c m → Ready t c (frameTurn t c k i m)
-      turn i b m ready =
-          let below : i < c .objects = omega (arith, b, h) in
-          picked (Ready t c) (eqb (objectRecord t (c .ipdus) i .ipdu) k) (deliver (object t c i) i (unpack (object t c i) m) m) m
-          (λ e. ready-deliver t c m ready i below (unpack (object t c i) m) (unpack-lt t c m ready i below)) (λ e. ready)
-
-  pub ready-mark : (k mark n : ℕ) → mark ≤ 15 → n ≤ c .objects → (m : List ℕ) → Ready t c m → Ready t c (fold n (markTurn t c k mark) m)
-  ready-mark k mark n low h = fold-keeps (Ready t c) n (markTurn t c k mark) turn
-    where
-      turn : (i : ℕ) → i < n → (m : List ℕ) → Ready t c m → Ready t c (markTurn t c k mark i m)
-      turn i b m ready =
-          let below : i < c .objects = omega (arith, b, h) in
-          picked (Ready t c) (eqb (objectRecord t (c .ipdus) i .ipdu) k) (withObjectState m i (marked mark (objectState m i))) m
-          (λ e.
-          ready-object t c m ready i below (marked mark (objectState m i))
-          (kept-marked (objectRecord t (c .ipdus) i .depth) (depths t c i) mark (objectState m i) low (ready-kept t c m ready i below)))
-          (λ e. ready)

@@ -90,7 +90,7 @@ pub fn pack(m: &mut [u8], o: Object, v: u32)
 }
 
 // The value that an object has in its I-PDU.
-pub(crate) fn unpack(m: &[u8], o: Object) -> u32
+pub fn unpack(m: &[u8], o: Object) -> u32
     requires { ⌜ Placed o (now m) ⌝ }
     requires { ⌜ o .ipdu .0 < mostIpdus ⌝ }
     ensures { λ r. ⌜ r ≡ unpack o (now (m .entry)) ⌝ }

@@ -24,10 +24,10 @@ use Rattle.state.specs.Layout.{areaSize, slotAt, ipduState, objectState}
 use Rattle.state.specs.Ranges.{Ready}
 use Rattle.state.proofs.RowLaws.{ipdu-part}
 use Rattle.message.specs.Objects.{object, passesFilter, unpack, pack}
-use Rattle.message.specs.Delivery.{deliverInside, deliverFrame}
+use Rattle.delivery.specs.Delivery.{deliverInside, deliverFrame}
 use Rattle.message.proofs.ObjectsInRange.{ready-pack, ready-placed, unpack-lt}
-use Rattle.message.proofs.Apart.{inside-row, frame-row}
-use Rattle.message.proofs.Deliveries.{inside-waiting, frame-waiting}
+use Rattle.delivery.proofs.DeliveredRows.{inside-row, frame-row}
+use Rattle.delivery.proofs.Deliveries.{inside-waiting, frame-waiting}
 use Rattle.transmission.specs.Requests.{ipdu, timerSet}
 use Rattle.calls.specs.Answers.{Outcome}
 use Rattle.calls.specs.Calls.{isObject, request, sendIn, timed, indicationIn}

@@ -30,11 +30,13 @@ use Rattle.state.specs.Ranges.{Ready}
 use Rattle.state.proofs.RowLaws.{ipdu-part, ipdu-keeps-objects, object-part, object-stored, object-other, object-read}
 use Rattle.state.proofs.Ready.{ready-kept, ObjectKept, kept-fits, object-row, ipdu-row}
 use Rattle.message.specs.Objects.{object, passesFilter, placeAt, enters, marked, delivered, deliver, unpack}
-use Rattle.message.specs.Delivery.{insideTurn, deliverInside, frameTurn, deliverFrame, markTurn, markObjects}
+use Rattle.delivery.specs.Delivery.{insideTurn, deliverInside, frameTurn, deliverFrame, markTurn, markObjects}
 use Rattle.message.proofs.RingPlaces.{queue-room}
-use Rattle.message.proofs.ObjectsInRange.{kept-marked, ready-held, ready-queued, ready-inside, ready-frame, ready-mark}
-use Rattle.transmission.specs.Requests.{ipdu, hasPeriod, periodSet, periodTurn, setPeriods}
-use Rattle.transmission.proofs.RequestsInRange.{ready-periods}
+use Rattle.message.proofs.ObjectsInRange.{kept-marked, ready-held, ready-queued}
+use Rattle.delivery.proofs.DeliveriesInRange.{ready-inside, ready-frame, ready-mark}
+use Rattle.transmission.specs.Requests.{ipdu}
+use Rattle.timing.specs.Periods.{hasPeriod, periodSet, periodTurn, setPeriods}
+use Rattle.timing.proofs.PeriodsInRange.{ready-periods}
 use Rattle.calls.specs.Answers.{Outcome}
 use Rattle.calls.specs.Calls.{isObject, wants, request}
 use Rattle.calls.proofs.Records.{object-there, wants-some}

@@ -23,7 +23,7 @@ use Rattle.state.specs.Updates.{withOld, withValue, withMarks, withQueue}
 use Rattle.state.specs.Ranges.{Ready}
 use Rattle.state.proofs.Ready.{ObjectKept, ready-kept}
 use Rattle.message.specs.Objects.{object, markSent, markSendError, dequeue, initialiseAs, initialise}
-use Rattle.message.specs.Delivery.{deliverFrame}
+use Rattle.delivery.specs.Delivery.{deliverFrame}
 use Rattle.message.proofs.ObjectsInRange.{kept-old, kept-marks}
 use Rattle.transmission.specs.Requests.{ipdu, confirmed}
 use Rattle.calls.specs.Answers.{Outcome}

@@ -21,7 +21,7 @@ use Rattle.table.specs.Decode.{ipduOf, objectOf}
 use Rattle.state.specs.Layout.{memorySize, areaSize, runningAt, withRunning, ipduState, withIpduState, objectState, withObjectState}
 use Rattle.state.specs.Ranges.{ipduInRange, objectInRange, inRange}
 use Rattle.message.specs.Objects.{marked, afterFilter, delivered, deliver, pack}
-use Rattle.message.specs.Delivery.{deliverInside}
+use Rattle.delivery.specs.Delivery.{deliverInside}
 use Rattle.transmission.specs.Requests.{isDue, requestMade, afterRequest, copiedToArea}
 use Rattle.calls.specs.declared.Answer.the-variants.{Done}
 use Rattle.calls.specs.Answers.{numberOf, valueOf}

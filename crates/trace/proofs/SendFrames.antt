@@ -24,7 +24,7 @@ use Rattle.state.specs.Layout.{objectState, withObjectState, areaSize}
 use Rattle.state.specs.Updates.{counted}
 use Rattle.state.specs.Ranges.{Ready}
 use Rattle.message.specs.Objects.{object, passesFilter, deliver, pack}
-use Rattle.message.specs.Delivery.{insideTurn, deliverInside}
+use Rattle.delivery.specs.Delivery.{insideTurn, deliverInside}
 use Rattle.message.proofs.ObjectsInRange.{ready-pack}
 use Rattle.transmission.specs.Requests.{ipdu}
 use Rattle.calls.specs.declared.Answer.the-variants.{Done}

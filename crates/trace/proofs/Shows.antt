@@ -18,7 +18,7 @@ use Rattle.table.specs.Records.{sending, objectRecord}
 use Rattle.state.specs.Layout.{areaSize, objectState}
 use Rattle.state.specs.Ranges.{Ready}
 use Rattle.message.specs.Objects.{object, passesFilter}
-use Rattle.message.specs.Delivery.{deliverInside}
+use Rattle.delivery.specs.Delivery.{deliverInside}
 use Rattle.calls.specs.Answers.{Outcome}
 use Rattle.calls.specs.Calls.{isObject, stopIn, wants, request, sendOf, sendIn, initialiseIn, receiveIn, statusIn, marksIn, clearMarksIn, periodicIn, indicationIn, confirmIn}
 use Rattle.calls.specs.Tick.{tickIn}

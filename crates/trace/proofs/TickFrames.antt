@@ -14,9 +14,9 @@ use Rattle.state.specs.declared.IpduState.{IpduState}
 use Rattle.state.specs.Layout.{ipduState, withIpduState, areaSize}
 use Rattle.state.specs.Ranges.{Ready}
 use Rattle.message.specs.Objects.{markSendError, markReceiveError}
-use Rattle.message.specs.Delivery.{markObjects}
+use Rattle.delivery.specs.Delivery.{markObjects}
 use Rattle.transmission.specs.Requests.{ipdu, afterRequest}
-use Rattle.transmission.specs.Ticks.{tickDelay, deadlineExpires, tickDeadline, tickPeriod, timerExpires, tickTimer}
+use Rattle.timing.specs.Ticks.{tickDelay, deadlineExpires, tickDeadline, tickPeriod, timerExpires, tickTimer}
 use Rattle.calls.specs.declared.Answer.the-variants.{Done}
 use Rattle.calls.specs.Answers.{Outcome, valueOf}
 use Rattle.calls.specs.Tick.{TickResult, tickAs, tickIpdu, tickTurn, ticks, tickIn}

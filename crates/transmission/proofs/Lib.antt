@@ -1,3 +1,1 @@
 pub mod RequestsInRange
-pub mod TicksInRange
-pub mod PeriodTurn

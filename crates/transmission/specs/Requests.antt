@@ -1,21 +1,20 @@
 -- Document 01, "Calls": the requests, the period and the timer of one I-PDU, and its bytes in the request area.
 -- Assumes nothing.
-use mathlib.Core.Bool.{Bool, true, false, _&&_}
+use mathlib.Core.Bool.{Bool, true, _&&_}
 use mathlib.Core.List.{List, _++_}
 use Prim.Native.Nat.{ℕ, _-_, _*_}
 use lib.Dec.{eqb}
 use lib.ListN.{replicate}
 use Rattle.memory.specs.Bytes.{part, replaced}
-use Rattle.memory.specs.Search.{pick, fold}
-use Rattle.table.specs.declared.Counts.{Counts}
+use Rattle.memory.specs.Search.{pick}
 use Rattle.table.specs.declared.Ipdu.{Ipdu}
 use Rattle.table.specs.declared.Mode.{Mode}
 use Rattle.table.specs.declared.Mode.the-variants.{Direct, Periodic, Mixed}
 use Rattle.table.specs.Records.{ipduRecord}
 use Rattle.table.specs.Decode.{ipduOf}
 use Rattle.state.specs.declared.IpduState.{IpduState}
-use Rattle.state.specs.Layout.{slotAt, ipduState, withIpduState}
-use Rattle.state.specs.Updates.{withRequest, withWanted, withDelay, withPeriod, withTimer}
+use Rattle.state.specs.Layout.{slotAt}
+use Rattle.state.specs.Updates.{withRequest, withWanted, withDelay, withTimer}
 
 -- I-PDU k of a table
 abbrev pub ipdu : List ℕ → ℕ → Ipdu
@@ -51,23 +50,6 @@ requestClosed delay s = withDelay delay (withRequest 0 0 s)
 -- confirm closes the open request; good sets the delay to M, not good to 0
 unfoldable pub confirmed : Bool → Ipdu → IpduState → IpduState
 confirmed good p s = requestClosed (pick good (p .«minimum_delay») 0) s
-
--- ---- the period of the modes 1 and 2
-
-abbrev pub hasPeriod : Mode → Bool
-hasPeriod Direct = false
-hasPeriod Periodic = true
-hasPeriod Mixed = true
-
--- start periodic sets the countdown to the offset, running or not; stop periodic halts it
-unfoldable pub periodSet : Bool → Ipdu → IpduState → IpduState
-periodSet on p s = pick on (withPeriod 1 (p .offset) s) (withPeriod 0 (s .countdown) s)
-
-abbrev pub periodTurn : Bool → List ℕ → ℕ → List ℕ → List ℕ
-periodTurn on t k m = pick (hasPeriod (ipdu t k .mode)) (withIpduState m k (periodSet on (ipdu t k) (ipduState m k))) m
-
-unfoldable pub setPeriods : Bool → List ℕ → Counts → List ℕ → List ℕ
-setPeriods on t c m = fold (c .ipdus) (periodTurn on t) m
 
 -- ---- the receive timer: a good indication sets it to R
 

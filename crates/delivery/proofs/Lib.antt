@@ -1,0 +1,4 @@
+pub mod DeliveriesInRange
+pub mod DeliveredRows
+pub mod Deliveries
+pub mod Turns

@@ -1,0 +1,21 @@
+-- `calls::ticking::tick_ipdu`: the direction in the table tells which tick it is.
+-- Assumes nothing.
+use borrow.Author.Needs.{needs}
+use Rattle.calls.proofs.Ticks.{decoded-few, ticks-sent, ticks-received}
+use Rattle.ipdu_calls.proofs.ticking.tick_ipdu.Statement.{statement}
+use Rattle.ipdu_calls.proofs.ticking.tick_ipdu.Tie as tie
+
+pub tick-ipdu-spec : {M : Type 1} → statement M
+tick-ipdu-spec =
+    tie.close
+    (tie.spec
+    (λ c κs. search needs)
+    (λ c. search needs)
+    (λ c κs. (search needs, (search needs, search needs, search needs, search (needs, decoded-few), search needs)))
+    (λ c. search needs)
+    (λ c κs. (search needs, (search needs, search needs, search needs)))
+    (λ c. search needs)
+    (λ c. search needs)
+    (λ c. search (needs, ticks-sent))
+    (λ c. search needs)
+    (λ c. search (needs, ticks-received)))

@@ -1,0 +1,84 @@
+// Indication and confirm.
+use calls::Answer;
+use message::RECEIVE_ERROR;
+use message::SEND_ERROR;
+use state::SLOTS;
+use table::Counts;
+use table::IpduNumber;
+use table::RECEIVING;
+use table::SENDING;
+ghost use mathlib.Core.Bool.{true, false};
+ghost use mathlib.Core.List.{[]};
+ghost use mathlib.Core.Path.{_≡_};
+ghost use Prim.Native.Nat.{_+_, _≤_, _<_};
+ghost use lib.ListN.{length};
+ghost use Rattle.memory.specs.Search.{pick};
+ghost use Rattle.state.specs.Ranges.{Ready};
+ghost use Rattle.calls.specs.Answers.{outcome};
+ghost use Rattle.calls.specs.Calls.{indicationOf, indicationIn, confirmOf, confirmIn};
+
+// Takes over the bytes of a receive I-PDU, or notes that they were not received.
+pub fn indication(
+    t: &[u8],
+    c: Counts,
+    m: &mut [u8],
+    number: IpduNumber,
+    good: bool,
+    bytes: &[u8],
+) -> Answer
+    requires { ⌜ Ready (now t) c (now m) ⌝ }
+    ensures { λ r. ⌜ outcome r (now (m .exit)) [] ≡ indicationIn (now (t .entry)) c (number .0) good (now (bytes .entry)) (now (m .entry)) ⌝ }
+{
+    if !calls::is_ipdu(t, c, RECEIVING, number) {
+        return Answer::WrongId;
+    }
+    if !good {
+        delivery::mark_objects(t, c, m, number, RECEIVE_ERROR);
+        return Answer::Done(0);
+    }
+    good_indication(t, c, m, number, bytes)
+}
+
+fn good_indication(t: &[u8], c: Counts, m: &mut [u8], number: IpduNumber, bytes: &[u8]) -> Answer
+    requires { ⌜ Ready (now t) c (now m) ⌝ }
+    requires { ⌜ number .0 < c .ipdus ⌝ }
+    ensures { λ r. ⌜ outcome r (now (m .exit)) [] ≡ indicationOf true (now (t .entry)) c (number .0) (now (bytes .entry)) (now (m .entry)) ⌝ }
+{
+    let p = table::decode_ipdu(t, number);
+    let size = p.length.0 as usize;
+    if bytes.len() != size {
+        return Answer::WrongLength;
+    }
+    let at = SLOTS + 8 * (number.0 as usize);
+    memory::copy(m, at, bytes);
+    delivery::deliver_frame(t, c, m, number);
+    transmission::set_timer(m, number, p);
+    Answer::Done(0)
+}
+
+// Closes the open request of a send I-PDU.
+pub fn confirm(t: &[u8], c: Counts, m: &mut [u8], number: IpduNumber, good: bool) -> Answer
+    requires { ⌜ Ready (now t) c (now m) ⌝ }
+    ensures { λ r. ⌜ outcome r (now (m .exit)) [] ≡ confirmIn (now (t .entry)) c (number .0) good (now (m .entry)) ⌝ }
+{
+    if !calls::is_ipdu(t, c, SENDING, number) {
+        return Answer::WrongId;
+    }
+    let s = state::ipdu_state(m, number);
+    if s.requested == 0 {
+        return Answer::NotRequested;
+    }
+    transmission::confirm(m, number, table::decode_ipdu(t, number), good);
+    delivery::mark_objects(t, c, m, number, confirm_mark(good));
+    Answer::Done(0)
+}
+
+// The mark of a good or not good confirm.
+fn confirm_mark(good: bool) -> u32
+    ensures { λ r. ⌜ r ≡ pick good 2 8 ⌝ }
+{
+    if good {
+        return message::SENT;
+    }
+    SEND_ERROR
+}

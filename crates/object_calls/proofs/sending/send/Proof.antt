@@ -1,0 +1,37 @@
+-- `calls::sending::send`: the object found is decoded, delivered inside, filtered, and packed and requested where it passed.
+-- Assumes nothing.
+use borrow.Author.Needs.{needs}
+use Rattle.calls.specs.Calls.{sendIn}
+use Rattle.message.proofs.ObjectsInRange.{decoded-period}
+use Rattle.memory.proofs.Tests.{not-found}
+use Rattle.calls.proofs.Outcomes.{found-record, found-start, found-object, found-row-after, found-placed-after, found-has-ipdu, send-dropped, send-passed}
+use Rattle.object_calls.proofs.sending.send.Statement.{statement}
+use Rattle.object_calls.proofs.sending.send.Tie as tie
+
+pub send-spec : {M : Type 1} → statement M
+unfolding sendIn
+send-spec =
+    tie.close
+    (tie.spec
+    (λ c κs. search needs)
+    (λ c. search (needs, not-found))
+    (λ c κs. (search (needs, found-record), search (needs, found-start)))
+    (λ c κs. search needs)
+    (λ c κs. (search (needs, found-row-after), search (needs, decoded-period, found-object)))
+    (λ c. search needs)
+    (λ c. search (needs, send-dropped))
+    (λ c κs. search (needs, found-placed-after))
+    (λ c κs. (search (needs, found-has-ipdu), (search needs, search needs)))
+    (λ c. search needs)
+    (λ c. search needs)
+    (λ c.
+    let at-request = c .before .before .before .before in
+    let at-pack = at-request .before .before .before .before .before in
+    let at-filter = at-pack .before .before .before .before .before in
+    let at-inside = at-filter .before .before .before .before in
+    let at-object = at-inside .before .before in
+    let is = at-object .before .before .is-object .ensures in
+    let there = at-object .before .if1 .left in
+    send-passed _ _ _ _ _ _ _ _ _ _ _ is there (at-object .decode-object .ensures) (at-inside .deliver-inside .ensures)
+    (at-filter .filter-sent .ensures .0) (at-filter .filter-sent .ensures .1) _ _ (at-pack .before .before .if2 .left) (at-pack .pack .ensures)
+    (at-request .request .ensures)))

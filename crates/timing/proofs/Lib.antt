@@ -1,0 +1,3 @@
+pub mod PeriodsInRange
+pub mod TicksInRange
+pub mod PeriodTurn
