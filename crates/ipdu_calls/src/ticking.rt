@@ -62,14 +62,7 @@ fn tick_send(t: &[u8], c: Counts, m: &mut [u8], area: &mut [u8], number: IpduNum
     ensures { λ r. ⌜ outcome (Done r) (now (m .exit)) (now (area .exit)) ≡ tickAs Send (now (t .entry)) c (number .0) (now (area .entry)) (now (m .entry)) ⌝ }
 {
     let s = timing::tick_delay(state::ipdu_state(m, number));
-    mark_where(
-        t,
-        c,
-        m,
-        number,
-        SEND_ERROR,
-        timing::deadline_expires(s),
-    );
+    mark_where(t, c, m, number, SEND_ERROR, timing::deadline_expires(s));
     let next = timing::tick_period(p, timing::tick_deadline(s));
     transmission::try_request(m, area, number, p, next)
 }
@@ -81,14 +74,7 @@ fn tick_receive(t: &[u8], c: Counts, m: &mut [u8], number: IpduNumber, p: Ipdu)
     ensures { λ _. ⌜ now (m .exit) ≡ receiveTick (now (t .entry)) c (number .0) (ipduState (now (m .entry)) (number .0)) [] (now (m .entry)) .memory ⌝ }
 {
     let s = state::ipdu_state(m, number);
-    mark_where(
-        t,
-        c,
-        m,
-        number,
-        RECEIVE_ERROR,
-        timing::timer_expires(s),
-    );
+    mark_where(t, c, m, number, RECEIVE_ERROR, timing::timer_expires(s));
     state::set_ipdu_state(m, number, timing::tick_timer(p, s));
 }
 
