@@ -1,7 +1,8 @@
 #!/usr/bin/env python3
 """The documents: every link of README.md, CHANGELOG.md, docs/ and examples/README.md leads to a file, one with # to a heading of it; a link whose
 words are a name in a code font leads to a file that declares the name; and in a table every such name in a column of definitions, functions or
-statements is declared in a file that its cell links, or, where the cell links none, its row. Prints how many of each it found."""
+statements is declared in a file that its cell links, or, where the cell links none, its row. docs/CLAIMS.md names every must-fail edit, and where it
+names one as CRATE/EDIT, there is such a one. Prints how many of each it found."""
 import re
 import sys
 from functools import lru_cache
@@ -16,7 +17,7 @@ NAMED = ("definition", "function", "code", "law", "statement", "theorem", "publi
 NAME = re.compile(r"[A-Za-z][\w-]*(?:::\w+)?")
 
 problems = []
-counts = {"links": 0, "names that are links": 0, "names in tables": 0}
+counts = {"links": 0, "names": 0, "must-fail edits": 0}
 
 
 def headings(path):
@@ -72,7 +73,7 @@ def look_at_links(document, number, line):
             problem(document, number, f"no heading #{anchor} in {file.name}")
         name = CODE.fullmatch(words)
         if name and file.is_file() and NAME.fullmatch(name[1]):
-            counts["names that are links"] += 1
+            counts["names"] += 1
             if name[1].split("::")[-1] not in declared(file):
                 problem(document, number, f"{link} declares no {name[1]}")
 
@@ -90,7 +91,7 @@ def look_at_row(document, number, heads, cells):
         for name in CODE.findall(LINK.sub("", cell)):
             if not NAME.fullmatch(name):
                 continue
-            counts["names in tables"] += 1
+            counts["names"] += 1
             if not any(name.split("::")[-1] in declared(f) for f in files):
                 problem(document, number, f"`{name}` is in no file that the table gives for it")
 
@@ -115,12 +116,27 @@ def look_at(document):
             look_at_row(document, number, heads, cells_of(line))
 
 
+def look_at_edits(document):
+    text = document.read_text()
+    edits = {f"{edit.parent.parent.name}/{edit.stem}" for edit in (ROOT / "crates").glob("*/must-fail/*.edit")}
+    counts["must-fail edits"] = len(edits)
+    crates = {path.name for path in (ROOT / "crates").iterdir()}
+    for number, line in enumerate(text.split("\n"), 1):
+        for name in CODE.findall(line):
+            if re.fullmatch(r"\w+/\w+", name) and name.split("/")[0] in crates and name not in edits:
+                problem(document, number, f"there is no must-fail edit {name}")
+    for edit in sorted(edits):
+        if not re.search(rf"\b{edit.split('/')[1]}\b", text):
+            problem(document, 1, f"the must-fail edit {edit} is not named")
+
+
 for document in DOCUMENTS:
     look_at(document)
+look_at_edits(ROOT / "docs/CLAIMS.md")
 for words in problems:
     print(words)
 if problems:
     sys.exit(f"docs.py: {len(problems)} places of the documents are wrong")
 if not all(counts.values()):
     sys.exit(f"docs.py: nothing was looked at: {counts}")
-print("docs.py: " + ", ".join(f"{n} {what}" for what, n in counts.items()) + f" in {len(DOCUMENTS)} documents lead where they say")
+print("docs.py: " + ", ".join(f"{n} {what}" for what, n in counts.items()) + f" in {len(DOCUMENTS)} documents are as they say")
