@@ -48,8 +48,8 @@
  *                 ReceiveDynamicMessage, SendZeroMessage; COMCallback, COMCallout; OIL.
  *   interrupts    No two services may run at once, in tasks or interrupts: mask them around a call.
  *
- * As in the standard: SendMessage answers E_OK also where the filter drops the value; a full queue
- * loses the new value; GetMessageStatus of an unqueued message is E_COM_ID (Extended); StartCOM
+ * As in the standard: SendMessage answers E_OK also where the filter drops the value; what finds
+ * no room in its queue is lost; GetMessageStatus of an unqueued message is E_COM_ID (Extended); StartCOM
  * starts no period; each StartPeriodic begins again with the offsets.
  */
 #ifndef BIRNENSCHLOSS_OSEK_H

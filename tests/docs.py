@@ -30,9 +30,9 @@ def headings(path):
 @lru_cache(maxsize=None)
 def declared(path):
     """The names that a file declares: in .antt definitions, laws, records, types, fields and cases of a type; in .rt and .rs functions,
-    types and constants; in .h functions and macros; and the file's own name."""
+    types and constants; in .h functions and macros."""
     text = path.read_text()
-    names = {path.stem}
+    names = set()
     if path.suffix == ".antt":
         names |= set(re.findall(r"^ *(?:abbrev |unfoldable )*(?:pub )?(?:record |data )?([A-Za-z][\w-]*)(?=[^:\n=]*:(?!:))", text, flags=re.M))
     elif path.suffix in (".rt", ".rs"):

@@ -13,16 +13,16 @@ use Rattle.bits.specs.declared.Order.the-variants.{Little, Big}
 unfoldable pub bit : ℕ → ℕ → ℕ
 bit n k = n / 2 ^ k % 2
 
--- I-PDU bit k is bit k mod 8 of byte k div 8
+-- bit k of an I-PDU: eight to a byte, the lowest first
 unfoldable pub frameBit : List ℕ → ℕ → ℕ
 frameBit f k = bit (getD f (k / 8) 0) (k % 8)
 
--- the bit after p. Little: the next one. Big: the next one up to the byte's end, then on from bit 0 of the byte before
+-- the bit after p. Little: the next one. Big: the next one of its byte, and after the last the lowest of the preceding byte
 abbrev pub after : Order → ℕ → ℕ
 after Little p = p + 1
 after Big p = pick (eqb (p % 8) 7) (8 * (p / 8 - 1)) (p + 1)
 
--- where message bit i goes: message bit 0 goes to the start bit
+-- where message bit i goes, beginning with bit 0 at the start bit
 unfoldable pub place : Order → ℕ → ℕ → ℕ
 place o start zero = start
 place o start (suc i) = after o (place o start i)

@@ -12,11 +12,12 @@ use lib.ListN.{length}
 use Rattle.memory.specs.Bytes.{Bytes, replaced}
 use Rattle.memory.specs.Search.{pick}
 use Rattle.table.specs.declared.Counts.{Counts}
-use Rattle.table.specs.declared.Ipdu.{Ipdu}
-use Rattle.table.specs.declared.Object.{Object}
+use Rattle.config.specs.declared.Ipdu.{Ipdu}
+use Rattle.config.specs.declared.Object.{Object}
 use Rattle.table.specs.declared.ObjectRecord.{ObjectRecord}
 use Rattle.table.specs.Records.{mostIpdus, receiving, sending, absent, ipduRecord, objectRecord, objectBase}
-use Rattle.table.specs.Decode.{ipduOf, objectOf, Right}
+use Rattle.table.specs.Check.{Right}
+use Rattle.config.specs.Decode.{ipduOf, objectOf}
 use Rattle.state.specs.declared.IpduState.{IpduState}
 use Rattle.state.specs.declared.ObjectState.{ObjectState}
 use Rattle.state.specs.Layout.{rowSize, memorySize, slotAt, ipduRow, ipduState, withIpduState, objectRow, objectState, withObjectState}

@@ -14,11 +14,11 @@ use Rattle.memory.specs.Search.{pick}
 use Rattle.memory.proofs.Search.{picked, fold-keeps}
 use Rattle.memory.proofs.Tests.{true-or-false}
 use Rattle.table.specs.declared.Counts.{Counts}
-use Rattle.table.specs.declared.Direction.{Direction}
-use Rattle.table.specs.declared.Direction.the-variants.{Send, Receive}
+use Rattle.config.specs.declared.Direction.{Direction}
+use Rattle.config.specs.declared.Direction.the-variants.{Send, Receive}
 use Rattle.table.specs.Records.{receiving, sending, ipduRecord, objectRecord}
 use Rattle.table.specs.Check.{depths}
-use Rattle.table.specs.Decode.{ipduOf, objectOf}
+use Rattle.config.specs.Decode.{ipduOf, objectOf}
 use Rattle.table.proofs.Accepted.{usable}
 use Rattle.state.specs.Layout.{slotAt, ipduState, withIpduState, objectState, withObjectState}
 use Rattle.state.specs.Updates.{withOld, withValue, withMarks, withQueue, withWanted}

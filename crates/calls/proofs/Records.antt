@@ -10,11 +10,12 @@ use borrow.Author.Tests.{ltb-true, eqb-true, not-true}
 use lib.Dec.{ltb, eqb}
 use Rattle.memory.proofs.Tests.{and-split, true-or-false}
 use Rattle.table.specs.declared.Counts.{Counts}
-use Rattle.table.specs.declared.Direction.{Direction}
-use Rattle.table.specs.declared.Direction.the-variants.{Send, Receive}
-use Rattle.table.specs.declared.Object.{Object}
+use Rattle.config.specs.declared.Direction.{Direction}
+use Rattle.config.specs.declared.Direction.the-variants.{Send, Receive}
+use Rattle.config.specs.declared.Object.{Object}
 use Rattle.table.specs.Records.{receiving, sending, absent, ipduRecord, objectRecord}
-use Rattle.table.specs.Decode.{ipduOf, objectOf, Right}
+use Rattle.table.specs.Check.{Right}
+use Rattle.config.specs.Decode.{ipduOf, objectOf}
 use Rattle.table.proofs.Accepted.{usable}
 use Rattle.table.proofs.Facts.{ipdu-facts}
 use Rattle.state.specs.Ranges.{Ready}

@@ -11,8 +11,8 @@ use Rattle.bits.proofs.Places.{position-twice}
 use Rattle.table.specs.declared.Counts.{Counts}
 use Rattle.table.specs.Records.{sending, absent, objectRecord}
 use Rattle.table.specs.Rules.{orderOf}
-use Rattle.table.specs.Check.{depths}
-use Rattle.table.specs.Decode.{objectOf, Right}
+use Rattle.table.specs.Check.{depths, Right}
+use Rattle.config.specs.Decode.{objectOf}
 use Rattle.table.proofs.Accepted.{usable}
 use Rattle.state.specs.Layout.{objectState, withObjectState}
 use Rattle.state.specs.Ranges.{Ready}

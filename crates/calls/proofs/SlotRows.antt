@@ -14,7 +14,7 @@ use Rattle.memory.proofs.Parts.{part-apart, part-replaced, part-length, part-fr
 use Rattle.memory.proofs.Search.{picked}
 use Rattle.bits.specs.Bits.{packed}
 use Rattle.bits.proofs.RoundTrip.{packed-bytes}
-use Rattle.table.specs.declared.Object.{Object}
+use Rattle.config.specs.declared.Object.{Object}
 use Rattle.table.specs.Records.{mostIpdus, absent}
 use Rattle.state.specs.Layout.{areaSize, runningAt, slots, objectRows, slotAt, objectRow, objectState}
 use Rattle.state.proofs.RowLaws.{ipdu-part, object-read}

@@ -8,10 +8,11 @@ use native.Mathlib.Nat.{pow-succ', pow-le-pow-right, lt-of-lt-of-le, zero-lt-suc
 use native.Mathlib.Omega.{arith}
 use Rattle.memory.specs.Search.{pick}
 use Rattle.table.specs.declared.Counts.{Counts}
-use Rattle.table.specs.declared.Direction.{Direction}
-use Rattle.table.specs.declared.Direction.the-variants.{Send, Receive}
-use Rattle.table.specs.declared.Ipdu.{Ipdu}
-use Rattle.table.specs.Decode.{ipduOf, Right}
+use Rattle.config.specs.declared.Direction.{Direction}
+use Rattle.config.specs.declared.Direction.the-variants.{Send, Receive}
+use Rattle.config.specs.declared.Ipdu.{Ipdu}
+use Rattle.table.specs.Check.{Right}
+use Rattle.config.specs.Decode.{ipduOf}
 use Rattle.state.specs.Layout.{ipduState}
 use Rattle.memory.proofs.Search.{turn-more, turns-done}
 use Rattle.transmission.specs.Requests.{ipdu, isDue}

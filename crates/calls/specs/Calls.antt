@@ -9,12 +9,12 @@ use lib.ListN.{length}
 use Rattle.memory.specs.Bytes.{replaced}
 use Rattle.memory.specs.Search.{pick}
 use Rattle.table.specs.declared.Counts.{Counts}
-use Rattle.table.specs.declared.Ipdu.{Ipdu}
-use Rattle.table.specs.declared.Mode.{Mode}
-use Rattle.table.specs.declared.Mode.the-variants.{Direct, Periodic, Mixed}
-use Rattle.table.specs.declared.Object.{Object}
-use Rattle.table.specs.declared.Transfer.{Transfer}
-use Rattle.table.specs.declared.Transfer.the-variants.{Triggered, Pending}
+use Rattle.config.specs.declared.Ipdu.{Ipdu}
+use Rattle.config.specs.declared.Mode.{Mode}
+use Rattle.config.specs.declared.Mode.the-variants.{Direct, Periodic, Mixed}
+use Rattle.config.specs.declared.Object.{Object}
+use Rattle.config.specs.declared.Transfer.{Transfer}
+use Rattle.config.specs.declared.Transfer.the-variants.{Triggered, Pending}
 use Rattle.table.specs.Records.{mostIpdus, receiving, sending, absent, ipduRecord, objectRecord}
 use Rattle.state.specs.declared.IpduState.{IpduState}
 use Rattle.state.specs.declared.ObjectState.{ObjectState}
@@ -42,13 +42,13 @@ isObject t c kind i = ltb i (c .objects) && eqb (objectRecord t (c .ipdus) i .ki
 abbrev pub isIpdu : List ℕ → Counts → ℕ → ℕ → Bool
 isIpdu t c direction k = ltb k (c .ipdus) && eqb (ipduRecord t k .direction) direction
 
--- ---- stop notes that the layer is stopped, and changes nothing else
+-- ---- stop: from now on the layer does not run; all else stays
 
 unfoldable pub stopIn : List ℕ → Outcome
 stopIn m = outcome (Done 0) (withRunning m 0) []
 
--- ---- send: delivers to internal receivers by rising number, then filters, and if passed packs. A triggered one wants a request
--- unless the mode is periodic, made in this call if it may go, else postponed. The word has a bit for the I-PDU requested.
+-- ---- send: first the receivers inside get the value, then the filter judges it; one that passes is packed. A triggered object of a
+-- direct or mixed I-PDU then wants a request, made at once where it may go. The word has a bit for the I-PDU requested.
 
 abbrev pub isTriggered : Transfer → Bool
 isTriggered Triggered = true
@@ -90,7 +90,7 @@ sendIn t c i v area m = pick (isObject t c sending i) (sendOf t c i v area m) (o
 unfoldable pub initialiseIn : List ℕ → Counts → ℕ → ℕ → List ℕ → Outcome
 initialiseIn t c i v m = pick (ltb i (c .objects)) (outcome (Done 0) (initialise (object t c i) i v m) []) (outcome WrongId m [])
 
--- ---- receive: unqueued gives the value each time, queued gives the oldest and removes it. 4 where the queue is empty; 3 after an
+-- ---- receive: the value of an unqueued object; of a queue the oldest, which is taken out. 4 where the queue is empty; 3 after an
 -- overflow, with the oldest
 
 abbrev pub limited : ObjectState → ℕ → Answer
@@ -117,7 +117,7 @@ statusIn t c i m =
     pick (isObject t c receiving i && not (eqb (objectRecord t (c .ipdus) i .depth) 0)) (outcome (statusOf (objectState m i)) m [])
     (outcome WrongId m [])
 
--- ---- marks reads, clear marks clears, the four marks of an object
+-- ---- marks, clear marks: all four of an object are read, or cleared
 
 unfoldable pub marksIn : Counts → ℕ → List ℕ → Outcome
 marksIn c i m = pick (ltb i (c .objects)) (outcome (Done (objectState m i .marks)) m []) (outcome WrongId m [])
@@ -131,8 +131,8 @@ clearMarksIn c i m =
 unfoldable pub periodicIn : Bool → List ℕ → Counts → List ℕ → Outcome
 periodicIn on t c m = outcome (Done 0) (setPeriods on t c m) []
 
--- ---- indication: good copies the bytes, delivers to its objects by rising number, and sets the timer to R. Not good marks receive
--- error on each; the bytes' length is not looked at
+-- ---- indication: of a good one the bytes become the I-PDU's, each of its objects is delivered its bits, by rising number, and the timer
+-- becomes R. A bad one sets receive error for all its objects, whatever its bytes
 
 abbrev pub timed : List ℕ → ℕ → List ℕ → List ℕ
 timed t k m = withIpduState m k (timerSet (ipdu t k) (ipduState m k))

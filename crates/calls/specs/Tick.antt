@@ -4,8 +4,8 @@ use mathlib.Core.List.{List}
 use Prim.Native.Nat.{ℕ, _+_}
 use Rattle.memory.specs.Search.{pick, fold}
 use Rattle.table.specs.declared.Counts.{Counts}
-use Rattle.table.specs.declared.Direction.{Direction}
-use Rattle.table.specs.declared.Direction.the-variants.{Send, Receive}
+use Rattle.config.specs.declared.Direction.{Direction}
+use Rattle.config.specs.declared.Direction.the-variants.{Send, Receive}
 use Rattle.state.specs.declared.IpduState.{IpduState}
 use Rattle.state.specs.Layout.{ipduState, withIpduState}
 use Rattle.message.specs.Objects.{markReceiveError, markSendError}

@@ -7,7 +7,7 @@ use Rattle.filter.specs.Filters.{passes, filterOf, filterRight}
 use Rattle.table.specs.Records.{counts, ipduRecord, objectRecord}
 use Rattle.table.specs.Rules.{offsetsRight, headerRight, ipduRight, references, objectRight}
 use Rattle.table.specs.Check.{shareBit, overlapsLower, check}
-use Rattle.table.specs.Decode.{ipduOf, objectOf}
+use Rattle.config.specs.Decode.{ipduOf, objectOf}
 use Rattle.state.specs.Layout.{runningAt, withRunning, ipduState, withIpduState, objectState, withObjectState}
 use Rattle.state.specs.Ranges.{ipduInRange, objectInRange, inRange}
 use Rattle.message.specs.Objects.{marked, afterFilter, delivered, deliver, oldest, dequeue, pack, unpack, initialise}

@@ -7,7 +7,7 @@ use Rattle.bits.specs.declared.Order.the-variants.{Little, Big}
 use Rattle.layer.specs.Step.{start, stop, send, receive, status, marks, clearMarks, startPeriodic, indication, confirm, tick}
 use Rattle.cases.specs.Case.{line, shows, Case, packs, fits, answers, pair, sendIpdu, receiveIpdu, sendObject, receiveObject, area}
 
--- 6: filter 5, initial 0, sends 0, 5, 5, 0: second and fourth pass. Each that passes makes a request; the first is confirmed.
+-- 6: "new differs from old" over 0, 5, 5, 0 from an initial 0 lets two through. Each makes a request; the first is confirmed.
 abbrev pub case6 : Case
 case6 =
     answers (pair (sendIpdu 0 0 0 0 10) (sendObject 5 0 0))
@@ -19,7 +19,7 @@ case6 =
     ∷ shows (send 0 0 area) 0 1 (0 ∷ 31 ∷ []) (replicate 8 0 ++ replicate 8 170)
     ∷ [])
 
--- 7: filter 14, period 3, offset 1: of six sends, the second and fifth pass
+-- 7: one in three, from the second of six on
 abbrev pub case7 : Case
 case7 =
     answers (pair (sendIpdu 0 0 0 0 10) (sendObject 14 3 1))
@@ -34,7 +34,7 @@ case7 =
     ∷ line (send 0 6 area) 0 0
     ∷ [])
 
--- 8: depth 2, arrivals 7, 8, 9 (from bit 13 on): receive gives 7 with 3, then 8 with 0, then 4. Before that status answers 3, and
+-- 8: three arrivals for a queue of two (from bit 13 on): the first comes out with 3, the second with 0, then it is empty. Before that status answers 3, and
 -- clear marks clears the mark of arrival and not the overflow.
 abbrev pub case8 : Case
 case8 =
@@ -52,7 +52,7 @@ case8 =
     ∷ line (receive 0) 4 0
     ∷ [])
 
--- 9: direct, M 3, D 10: request, good confirm, send: request on the third tick. A tick with too short an area is none.
+-- 9: a minimum delay of 3 after a good confirm: the send in it is requested by tick 3. A tick with too short an area is none.
 abbrev pub case9 : Case
 case9 =
     answers (pair (sendIpdu 0 0 0 3 10) (sendObject 0 0 0))
@@ -66,7 +66,7 @@ case9 =
     ∷ shows (tick area) 0 1 (0 ∷ 1 ∷ []) ((0x00 ∷ 0xC0 ∷ []) ++ replicate 6 0 ++ replicate 8 170)
     ∷ [])
 
--- 10: D 2, no confirm, a second send waiting: request on the second tick, with send error (8) marked. A stopped layer answers 7.
+-- 10: a deadline of 2 that nothing confirms: tick 2 requests the send that waits, with send error (8) marked. A stopped layer answers 7.
 abbrev pub case10 : Case
 case10 =
     answers (pair (sendIpdu 0 0 0 0 2) (sendObject 0 0 0))
@@ -80,7 +80,7 @@ case10 =
     ∷ line (marks 0) 7 0
     ∷ [])
 
--- 11: mode 1, period 4, offset 2: requests on ticks 2, 6, 10 after start periodic
+-- 11: a period of 4 that begins 2 ticks after start periodic
 abbrev pub case11 : Case
 case11 =
     answers (pair (sendIpdu 1 4 2 0 20) (sendObject 0 0 0))

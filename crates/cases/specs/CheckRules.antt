@@ -51,11 +51,11 @@ headerRules =
     ∷ checks (table12 ++ (0 ∷ [])) WrongHeader
     ∷ checks (part 0 63 table12) WrongHeader
     ∷ checks (withByte 8 65 table12 ++ (0 ∷ [])) WrongHeader
-    -- a slice under 16 bytes is a wrong header; 16 are enough
+    -- fewer than 16 bytes are no header; 16 are enough
     ∷ checks [] WrongHeader
     ∷ checks (part 0 15 (tableOf [] [])) WrongHeader
     ∷ checks (tableOf [] []) (accepted 0 0)
-    -- I-PDU count 0..32, object count 0..128 (the header is right, object 0 is not)
+    -- at most 32 I-PDUs and 128 objects (the header is right, object 0 is not)
     ∷ checks (tableOf (replicate 32 directIpdu) []) (accepted 32 0)
     ∷ checks (tableOf (replicate 33 directIpdu) []) WrongHeader
     ∷ checks (tableOf [] (replicate 128 kind3)) (objectNamed 0)
@@ -124,10 +124,10 @@ objectRules =
     objectAccepted (objectBytes 1 0 255 13 12 0 0 0 0 4294967295 0 0)
     -- kind 1 or 2
     ∷ objectRefused (objectBytes 0 255 255 0 32 0 0 0 0 0 0 0) ∷ objectRefused kind3
-    -- the I-PDU exists and has the object's direction
+    -- an I-PDU that is not there, or of the other direction
     ∷ objectRefused (objectBytes 1 2 255 13 12 0 0 0 0 0 0 0) ∷ objectRefused (objectBytes 2 254 255 13 12 0 0 0 0 0 0 0)
     ∷ objectRefused (objectBytes 1 1 255 13 12 0 0 0 0 0 0 0) ∷ objectRefused (objectBytes 2 0 255 13 12 0 0 0 0 0 0 0)
-    -- a send object has byte 2 = 255 and depth 0
+    -- a send object with a sender, or with a queue
     ∷ objectRefused (objectBytes 1 0 0 13 12 0 0 0 0 0 0 0) ∷ objectRefused (objectBytes 1 0 255 13 12 0 0 1 0 0 0 0)
     -- transfer 0 or 1; 0 in a receive object
     ∷ objectAccepted (objectBytes 1 0 255 13 12 0 1 0 0 0 0 0) ∷ objectRefused (objectBytes 1 0 255 13 12 0 2 0 0 0 0 0)
@@ -139,7 +139,7 @@ objectRules =
     ∷ objectAccepted (objectBytes 1 0 255 18 12 1 0 0 0 0 0 0) ∷ objectRefused (objectBytes 1 0 255 18 12 2 0 0 0 0 0 0)
     -- depth 0..16
     ∷ objectAccepted (objectBytes 2 1 255 0 8 0 0 16 0 0 0 0) ∷ objectRefused (objectBytes 2 1 255 0 8 0 0 17 0 0 0 0)
-    -- with no I-PDU, start is 0, length 32 and order 0; either transfer
+    -- outside any I-PDU all 32 bits from bit 0 on, little; either transfer
     ∷ objectAccepted (objectBytes 1 255 255 0 32 0 1 0 0 0 0 0) ∷ objectAccepted (objectBytes 2 255 255 0 32 0 0 4 0 0 0 0)
     ∷ objectRefused (objectBytes 1 255 255 1 32 0 0 0 0 0 0 0) ∷ objectRefused (objectBytes 1 255 255 0 31 0 0 0 0 0 0 0)
     ∷ objectRefused (objectBytes 2 255 255 0 32 1 0 0 0 0 0 0)
@@ -199,12 +199,12 @@ tableRules =
     ∷ objectsGive (sendObject 0 0 0 ∷ internalReceiver 2 0 0 0 ∷ []) (objectNamed 1)
     ∷ objectsGive (sendObject 0 0 0 ∷ internalReceiver 1 0 0 0 ∷ []) (objectNamed 1)
     ∷ objectsGive (internalReceiver 1 0 0 0 ∷ kind3 ∷ []) (objectNamed 0)
-    -- one that is wrong in another way does not make its receiver wrong
+    -- another fault of the sender is not named at its receiver
     ∷ objectsGive (internalReceiver 1 0 0 0 ∷ sendObject 15 0 0 ∷ []) (objectNamed 1)
-    -- a receive object has at most one of I-PDU and sending object
+    -- an I-PDU, a sender, neither, but not both
     ∷ checks (tableOf bothIpdus (sendObject 0 0 0 ∷ objectBytes 2 1 255 0 32 0 0 0 0 0 0 0 ∷ [])) (accepted 2 2)
     ∷ checks (tableOf bothIpdus (sendObject 0 0 0 ∷ objectBytes 2 1 0 0 32 0 0 0 0 0 0 0 ∷ [])) (objectNamed 1)
-    -- two send objects share no bit of an I-PDU: the higher is named
+    -- of two send objects that overlap the higher is named
     ∷ objectsGive (little 0 8 ∷ little 8 8 ∷ []) (accepted 1 2)
     ∷ objectsGive (little 0 8 ∷ little 7 8 ∷ []) (objectNamed 1)
     ∷ objectsGive (little 7 8 ∷ little 0 8 ∷ []) (objectNamed 1)

@@ -114,7 +114,7 @@ oldOfReceivers =
     ∷ refuses (receive 1) 4
     ∷ [])
 
--- filters on the sending side see the value before bits are dropped: bit 20 of a 12-bit object
+-- a sending filter judges the whole value: bit 20 of a 12-bit object
 abbrev wholeValue : Case
 wholeValue =
     answers (pair directIpdu (objectBytes 1 0 255 13 12 0 0 0 2 0 1048576 1048576))
@@ -145,7 +145,7 @@ receivedBits =
 
 -- ---- occurrence
 
--- it starts at 0 and rises after each filtering, passed or not; initialise leaves it: the second send has occurrence 1
+-- every filtering counts, a dropped one too; initialise leaves it: the second send has occurrence 1
 abbrev occurrenceOfSender : Case
 occurrenceOfSender =
     answers (pair directIpdu (objectBytes 1 0 255 13 12 0 0 0 14 0 2 0))
@@ -157,7 +157,7 @@ occurrenceOfSender =
     ∷ sendGives 0 4 1
     ∷ [])
 
--- so also of a receive object, for a value that a full queue loses too; a dropped value at a full queue notes no overflow
+-- so also of a receive object, for a value that a full queue loses too; one that its filter drops there notes nothing
 abbrev occurrenceOfReceiver : Case
 occurrenceOfReceiver =
     answers (pair (receiveIpdu 0 0) (objectBytes 2 0 255 0 8 0 0 1 14 0 2 0))

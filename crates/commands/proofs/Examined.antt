@@ -10,8 +10,7 @@ use Rattle.memory.proofs.Parts.{part-bytes}
 use Rattle.table.specs.declared.Counts.{Counts}
 use Rattle.table.specs.declared.Verdict.{Verdict}
 use Rattle.table.specs.declared.Verdict.the-variants.{Accepted}
-use Rattle.table.specs.Check.{check}
-use Rattle.table.specs.Decode.{Right}
+use Rattle.table.specs.Check.{check, Right}
 use Rattle.table.proofs.Accepted.{accepted-right}
 use Rattle.state.specs.Layout.{memorySize}
 use Rattle.state.specs.Ranges.{inRange}

@@ -13,7 +13,7 @@ use Rattle.memory.proofs.Search.{picked, fold-keeps, fold-view, fold-at}
 use Rattle.bits.specs.Bits.{unpacked}
 use Rattle.table.specs.declared.Counts.{Counts}
 use Rattle.table.specs.Records.{mostIpdus, objectRecord}
-use Rattle.table.specs.Decode.{objectOf}
+use Rattle.config.specs.Decode.{objectOf}
 use Rattle.state.specs.declared.ObjectState.{ObjectState}
 use Rattle.state.specs.Layout.{slotAt, objectState}
 use Rattle.state.specs.Ranges.{Ready}

@@ -13,10 +13,10 @@ use Rattle.memory.proofs.Search.{picked, sum-more, fold-view, fold-at}
 use Rattle.memory.proofs.Tests.{lt-or-le, true-or-false}
 use Rattle.bits.specs.Bits.{unpacked}
 use Rattle.table.specs.declared.Counts.{Counts}
-use Rattle.table.specs.declared.Object.{Object}
+use Rattle.config.specs.declared.Object.{Object}
 use Rattle.table.specs.Records.{mostIpdus, objectRecord}
 use Rattle.table.specs.Check.{depths}
-use Rattle.table.specs.Decode.{objectOf}
+use Rattle.config.specs.Decode.{objectOf}
 use Rattle.state.specs.Layout.{queues, objectState}
 use Rattle.state.specs.Ranges.{Ready}
 use Rattle.state.proofs.Ready.{ready-kept}

@@ -8,10 +8,11 @@ use borrow.Author.Tests.{eq-eqb, ne-eqb}
 use lib.Bits.{bitOr}
 use Rattle.memory.specs.Search.{fold}
 use Rattle.table.specs.declared.Counts.{Counts}
-use Rattle.table.specs.declared.Object.{Object}
+use Rattle.config.specs.declared.Object.{Object}
 use Rattle.table.specs.declared.ObjectRecord.{ObjectRecord}
 use Rattle.table.specs.Records.{mostIpdus, objectRecord}
-use Rattle.table.specs.Decode.{objectOf, Right}
+use Rattle.table.specs.Check.{Right}
+use Rattle.config.specs.Decode.{objectOf}
 use Rattle.state.specs.declared.ObjectState.{ObjectState}
 use Rattle.state.specs.Layout.{objectState, withObjectState}
 use Rattle.state.specs.Updates.{withMarks}

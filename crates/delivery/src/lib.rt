@@ -40,7 +40,7 @@ fn inside_turn(
     if r.sender != sender.0 {
         return;
     }
-    message::deliver(m, number, table::decode_object(t, c.ipdus, number), v);
+    message::deliver(m, number, config::decode_object(t, c.ipdus, number), v);
 }
 
 // Delivers to each object of an I-PDU its bits of it.
@@ -68,7 +68,7 @@ fn frame_turn(t: &[u8], c: Counts, m: &mut [u8], ipdu: IpduNumber, number: Objec
     if r.ipdu != ipdu.0 {
         return;
     }
-    let o = table::decode_object(t, c.ipdus, number);
+    let o = config::decode_object(t, c.ipdus, number);
     let v = message::unpack(m, o);
     message::deliver(m, number, o, v);
 }

@@ -136,7 +136,7 @@ fn with_reader(run: Run, reader: Reader) -> Run
     }
 }
 
-// The end of the script: a last line without its line feed can't be read. `out` needs `LONGEST_LINE` bytes; with fewer, nothing is put.
+// The end of the script: a last line that was not ended is refused. `out` needs `LONGEST_LINE` bytes; with fewer, nothing is put.
 pub fn finish(out: &mut [u8], progress: Progress) -> usize
     ensures { λ r. ⌜ Put 0 (pick (leb longestLine (length (now (out .entry)))) (endText progress) []) (now (out .entry)) (now (out .exit)) r ⌝ }
     ensures { λ r. ⌜ r ≤ length (now (out .entry)) ⌝ }

@@ -17,7 +17,7 @@ pub use forwarded::birnenschloss_stop_periodic;
 pub use forwarded::birnenschloss_tick;
 ghost use mathlib.Core.Path.{_≡_};
 ghost use Rattle.table.specs.Check.{check};
-ghost use Rattle.table.specs.Decode.{ipduLength};
+ghost use Rattle.config.specs.Decode.{ipduLength};
 ghost use Rattle.exports.specs.Answers.{answerOf};
 
 // A number of document 01 and what is returned with it.
@@ -44,6 +44,6 @@ pub extern "C" fn birnenschloss_check(table: &[u8]) -> Answer
 pub extern "C" fn birnenschloss_ipdu_length(table: &[u8], ipdu: u32) -> u32
     ensures { λ r. ⌜ r ≡ ipduLength (now (table .entry)) ipdu ⌝ }
 {
-    let length = table::ipdu_length(table, table::IpduNumber(ipdu));
+    let length = config::ipdu_length(table, table::IpduNumber(ipdu));
     length.0
 }

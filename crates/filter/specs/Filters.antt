@@ -29,7 +29,7 @@ passes NewIsLess new old n = ltb new old
 passes NewIsGreaterOrEqual new old n = leb old new
 passes (OneEveryN period offset) new old n = eqb (n % period) offset
 
--- the occurrence rises after each filtering, passed or not; from 255 it goes to 0
+-- the occurrence after one more filtering, of which there are 256
 abbrev pub nextOccurrence : ℕ → ℕ
 nextOccurrence n = (n + 1) % 256
 

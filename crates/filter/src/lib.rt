@@ -121,7 +121,7 @@ pub fn passes(filter: Filter, new: u32, old: u32, occurrence: u8) -> bool
     }
 }
 
-// The occurrence after one more filtering, passed or not: from 255 it goes to 0.
+// The occurrence after one more filtering; 0 comes after 255.
 pub fn next_occurrence(occurrence: u8) -> u8
     ensures { λ r. ⌜ r ≡ nextOccurrence occurrence ⌝ }
 {

@@ -44,7 +44,7 @@ fn good_indication(t: &[u8], c: Counts, m: &mut [u8], number: IpduNumber, bytes:
     requires { ⌜ number .0 < c .ipdus ⌝ }
     ensures { λ r. ⌜ outcome r (now (m .exit)) [] ≡ indicationOf true (now (t .entry)) c (number .0) (now (bytes .entry)) (now (m .entry)) ⌝ }
 {
-    let p = table::decode_ipdu(t, number);
+    let p = config::decode_ipdu(t, number);
     let size = p.length.0 as usize;
     if bytes.len() != size {
         return Answer::WrongLength;
@@ -68,7 +68,7 @@ pub fn confirm(t: &[u8], c: Counts, m: &mut [u8], number: IpduNumber, good: bool
     if s.requested == 0 {
         return Answer::NotRequested;
     }
-    transmission::confirm(m, number, table::decode_ipdu(t, number), good);
+    transmission::confirm(m, number, config::decode_ipdu(t, number), good);
     delivery::mark_objects(t, c, m, number, confirm_mark(good));
     Answer::Done(0)
 }

@@ -1,10 +1,10 @@
 // Tick.
 use calls::Answer;
+use config::Direction;
+use config::Ipdu;
 use message::RECEIVE_ERROR;
 use message::SEND_ERROR;
 use table::Counts;
-use table::Direction;
-use table::Ipdu;
 use table::IpduNumber;
 ghost use mathlib.Core.List.{[]};
 ghost use mathlib.Core.Path.{_≡_};
@@ -12,9 +12,8 @@ ghost use Prim.Native.Nat.{_≤_, _<_};
 ghost use lib.ListN.{length};
 ghost use Rattle.table.specs.Records.{mostIpdus};
 ghost use Rattle.memory.specs.Search.{pick};
-ghost use Rattle.table.specs.declared.Direction.the-variants.{Send};
-ghost use Rattle.table.specs.Check.{Shape};
-ghost use Rattle.table.specs.Decode.{Right};
+ghost use Rattle.config.specs.declared.Direction.the-variants.{Send};
+ghost use Rattle.table.specs.Check.{Shape, Right};
 ghost use Rattle.state.specs.Layout.{memorySize, ipduState, areaSize};
 ghost use Rattle.state.specs.Ranges.{Ready};
 ghost use Rattle.delivery.specs.Delivery.{markObjects};
@@ -44,7 +43,7 @@ fn tick_ipdu(t: &[u8], c: Counts, m: &mut [u8], area: &mut [u8], number: IpduNum
     requires { ⌜ (number .0 < c .ipdus) × (memorySize ≤ length (now m)) × (areaSize ≤ length (now area)) ⌝ }
     ensures { λ r. ⌜ outcome (Done r) (now (m .exit)) (now (area .exit)) ≡ tickIpdu (now (t .entry)) c (number .0) (now (area .entry)) (now (m .entry)) ⌝ }
 {
-    let p = table::decode_ipdu(t, number);
+    let p = config::decode_ipdu(t, number);
     let direction = p.direction;
     match direction {
         Direction::Send => tick_send(t, c, m, area, number, p),

@@ -11,13 +11,13 @@ use Rattle.memory.specs.Bytes.{bytesOf, replaced}
 use Rattle.memory.specs.Search.{fold}
 use Rattle.memory.proofs.Search.{turn-more}
 use Rattle.table.specs.declared.Counts.{Counts}
-use Rattle.table.specs.declared.Direction.the-variants.{Send, Receive}
-use Rattle.table.specs.declared.Ipdu.{Ipdu}
-use Rattle.table.specs.declared.Object.{Object}
+use Rattle.config.specs.declared.Direction.the-variants.{Send, Receive}
+use Rattle.config.specs.declared.Ipdu.{Ipdu}
+use Rattle.config.specs.declared.Object.{Object}
 use Rattle.table.specs.declared.Verdict.{Verdict}
 use Rattle.table.specs.declared.Verdict.the-variants.{Accepted}
-use Rattle.table.specs.Decode.{objectOf, Right}
-use Rattle.table.specs.Check.{check, depths}
+use Rattle.table.specs.Check.{Right, check, depths}
+use Rattle.config.specs.Decode.{objectOf}
 use Rattle.table.proofs.Accepted.{accepted-right}
 use Rattle.state.specs.declared.IpduState.{IpduState}
 use Rattle.state.specs.declared.ObjectState.{ObjectState}

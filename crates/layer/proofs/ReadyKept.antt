@@ -11,8 +11,7 @@ use Rattle.memory.specs.Bytes.{Bytes}
 use Rattle.memory.proofs.Search.{picked}
 use Rattle.table.specs.declared.Counts.{Counts}
 use Rattle.table.specs.declared.Verdict.the-variants.{Accepted}
-use Rattle.table.specs.Check.{check}
-use Rattle.table.specs.Decode.{Right}
+use Rattle.table.specs.Check.{check, Right}
 use Rattle.state.specs.Layout.{memorySize, runningAt}
 use Rattle.state.specs.Ranges.{inRange, Ready}
 use Rattle.state.proofs.Running.{ready-running}

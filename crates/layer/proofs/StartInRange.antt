@@ -16,12 +16,12 @@ use Rattle.memory.proofs.Parts.{number-one, number-lt}
 use Rattle.memory.proofs.Search.{below-suc}
 use Rattle.memory.proofs.Tests.{lt-or-le}
 use Rattle.table.specs.declared.Counts.{Counts}
-use Rattle.table.specs.declared.Direction.{Direction}
-use Rattle.table.specs.declared.Direction.the-variants.{Send, Receive}
-use Rattle.table.specs.declared.Ipdu.{Ipdu}
+use Rattle.config.specs.declared.Direction.{Direction}
+use Rattle.config.specs.declared.Direction.the-variants.{Send, Receive}
+use Rattle.config.specs.declared.Ipdu.{Ipdu}
 use Rattle.table.specs.Records.{mostQueued, objectRecord}
-use Rattle.table.specs.Check.{depths}
-use Rattle.table.specs.Decode.{objectOf, Right}
+use Rattle.table.specs.Check.{depths, Right}
+use Rattle.config.specs.Decode.{objectOf}
 use Rattle.state.specs.declared.IpduState.{IpduState}
 use Rattle.state.specs.declared.ObjectState.{ObjectState}
 use Rattle.state.specs.Layout.{rowSize, slots, memorySize, runningAt, ipduRow, ipduState, withIpduState, objectRow, objectState, withObjectState}

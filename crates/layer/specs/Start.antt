@@ -5,10 +5,10 @@ use lib.Dec.{eqb}
 use lib.ListN.{replicate}
 use Rattle.memory.specs.Search.{pick, fold}
 use Rattle.table.specs.declared.Counts.{Counts}
-use Rattle.table.specs.declared.Direction.{Direction}
-use Rattle.table.specs.declared.Direction.the-variants.{Send, Receive}
-use Rattle.table.specs.declared.Ipdu.{Ipdu}
-use Rattle.table.specs.declared.Object.{Object}
+use Rattle.config.specs.declared.Direction.{Direction}
+use Rattle.config.specs.declared.Direction.the-variants.{Send, Receive}
+use Rattle.config.specs.declared.Ipdu.{Ipdu}
+use Rattle.config.specs.declared.Object.{Object}
 use Rattle.table.specs.Check.{depths}
 use Rattle.state.specs.declared.IpduState.{IpduState}
 use Rattle.state.specs.declared.ObjectState.{ObjectState}
@@ -18,11 +18,11 @@ use Rattle.transmission.specs.Requests.{ipdu}
 use Rattle.calls.specs.declared.Answer.the-variants.{Done}
 use Rattle.calls.specs.Answers.{Outcome, outcome}
 
--- bytes that the list of stored numbers does not name are 0
+-- every byte without a meaning is 0
 unfoldable pub blank : List ℕ
 blank = replicate memorySize 0
 
--- no request open or wanted, delays 0, periodic off
+-- nothing is requested or waits, no delay and no period runs
 abbrev pub idle : ℕ → IpduState
 idle timer =
     record {
@@ -57,7 +57,7 @@ unused value old queue =
       queue = queue;
     }
 
--- initial values packed, or stored in receive objects; old values initial
+-- an object's initial value: packed, or the value of a receive object, and old in both
 abbrev pub startAs : Direction → Object → ℕ → ℕ → List ℕ → List ℕ
 startAs Send o i queue m = pack o (o .initial) (withObjectState m i (unused 0 (o .initial) queue))
 startAs Receive o i queue m = withObjectState m i (unused (o .initial) (o .initial) queue)

@@ -9,7 +9,7 @@ ghost use mathlib.Core.Path.{_≡_};
 ghost use Prim.Native.Nat.{_≤_};
 ghost use lib.ListN.{length};
 ghost use Rattle.table.specs.declared.Verdict.the-variants.{Accepted};
-ghost use Rattle.table.specs.Decode.{Right};
+ghost use Rattle.table.specs.Check.{Right};
 ghost use Rattle.state.specs.Layout.{memorySize};
 ghost use Rattle.layer.specs.Admission.{Admits, admissionFront, admissionOf};
 

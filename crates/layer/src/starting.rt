@@ -1,14 +1,14 @@
 // Start: all of working memory, written from the table.
 use calls::Answer;
+use config::Direction;
+use config::Ipdu;
+use config::Object;
 use state::IpduState;
 use state::MEMORY_SIZE;
 use state::ObjectState;
 use state::RUNNING;
 use table::Counts;
-use table::Direction;
-use table::Ipdu;
 use table::IpduNumber;
-use table::Object;
 use table::ObjectNumber;
 use table::Verdict;
 ghost use mathlib.Core.List.{[]};
@@ -18,8 +18,7 @@ ghost use lib.Dec.{eqb};
 ghost use lib.ListN.{length};
 ghost use Rattle.memory.specs.Search.{pick, fold};
 ghost use Rattle.table.specs.declared.Verdict.the-variants.{Accepted};
-ghost use Rattle.table.specs.Check.{Shape, depths};
-ghost use Rattle.table.specs.Decode.{Right};
+ghost use Rattle.table.specs.Check.{Shape, depths, Right};
 ghost use Rattle.state.specs.Layout.{rowSize, queues, memorySize, objectRow};
 ghost use Rattle.message.specs.Objects.{Placed};
 ghost use Rattle.calls.specs.Answers.{outcome};
@@ -72,7 +71,7 @@ fn start_ipdus(t: &[u8], c: Counts, m: &mut [u8])
     let n = c.ipdus;
     let mut k = 0;
     while k < n {
-        let p = table::decode_ipdu(t, IpduNumber(k));
+        let p = config::decode_ipdu(t, IpduNumber(k));
         let direction = p.direction;
         let timer = first_timer(direction, p);
         state::set_ipdu_state(m, IpduNumber(k), idle(timer));
@@ -89,7 +88,7 @@ fn start_objects(t: &[u8], c: Counts, m: &mut [u8])
     let mut first = 0;
     let mut i = 0;
     while i < n {
-        let o = table::decode_object(t, c.ipdus, ObjectNumber(i));
+        let o = config::decode_object(t, c.ipdus, ObjectNumber(i));
         start_object(m, ObjectNumber(i), o, first);
         first += o.depth;
         i += 1;

@@ -14,7 +14,7 @@ use Rattle.memory.proofs.Tests.{lt-or-le}
 use Rattle.table.specs.declared.Counts.{Counts}
 use Rattle.table.specs.Records.{mostObjects, mostIpdus, objectRecord}
 use Rattle.table.specs.Check.{depths}
-use Rattle.table.specs.Decode.{objectOf}
+use Rattle.config.specs.Decode.{objectOf}
 use Rattle.state.specs.Layout.{rowSize, queues, slotAt, objectRow, objectState}
 use Rattle.state.specs.Ranges.{Ready}
 use Rattle.state.proofs.RowLaws.{object-part, object-stored, object-read}

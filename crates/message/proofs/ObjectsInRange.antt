@@ -19,10 +19,10 @@ use Rattle.bits.specs.Bits.{packed}
 use Rattle.bits.proofs.RoundTrip.{packed-length, packed-bytes, unpacked-lt}
 use Rattle.filter.specs.Filters.{HasPeriod}
 use Rattle.table.specs.declared.Counts.{Counts}
-use Rattle.table.specs.declared.Object.{Object}
+use Rattle.config.specs.declared.Object.{Object}
 use Rattle.table.specs.Records.{absent, objectRecord}
-use Rattle.table.specs.Check.{depths}
-use Rattle.table.specs.Decode.{objectOf, Right}
+use Rattle.table.specs.Check.{depths, Right}
+use Rattle.config.specs.Decode.{objectOf}
 use Rattle.table.proofs.Accepted.{usable}
 use Rattle.state.specs.declared.ObjectState.{ObjectState}
 use Rattle.state.specs.Layout.{memorySize, slotAt, objectState}

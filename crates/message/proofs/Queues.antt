@@ -19,7 +19,7 @@ use Rattle.memory.proofs.Parts.{bytesOf-length, number-replaced, number-apart, 
 use Rattle.memory.proofs.Rows.{put-holds}
 use Rattle.memory.proofs.Search.{picked}
 use Rattle.memory.proofs.Tests.{and-split, and-false, lt-or-le, true-or-false}
-use Rattle.table.specs.declared.Object.{Object}
+use Rattle.config.specs.declared.Object.{Object}
 use Rattle.state.specs.declared.ObjectState.{ObjectState}
 use Rattle.state.specs.Layout.{rowSize, queues, objectRow, objectFields, objectState, withObjectState}
 use Rattle.state.proofs.RowLaws.{object-part}

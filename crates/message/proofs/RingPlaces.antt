@@ -11,8 +11,8 @@ use lib.ListN.{length}
 use Rattle.table.specs.Records.{mostQueued}
 use Rattle.memory.specs.Search.{pick}
 use Rattle.memory.proofs.Tests.{lt-or-le}
-use Rattle.table.specs.declared.Direction.{Direction}
-use Rattle.table.specs.declared.Object.{Object}
+use Rattle.config.specs.declared.Direction.{Direction}
+use Rattle.config.specs.declared.Object.{Object}
 use Rattle.state.specs.declared.ObjectState.{ObjectState}
 use Rattle.state.specs.Layout.{rowSize, objectRow, objectState}
 use Rattle.message.specs.Objects.{Held, Placed, around, placeAt, initialiseAs, initialise}

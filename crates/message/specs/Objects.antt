@@ -13,11 +13,11 @@ use Rattle.bits.specs.Bits.{packed, unpacked}
 use Rattle.bits.specs.Slots.{position, InSlot}
 use Rattle.filter.specs.Filters.{passes}
 use Rattle.table.specs.declared.Counts.{Counts}
-use Rattle.table.specs.declared.Direction.{Direction}
-use Rattle.table.specs.declared.Direction.the-variants.{Send, Receive}
-use Rattle.table.specs.declared.Object.{Object}
+use Rattle.config.specs.declared.Direction.{Direction}
+use Rattle.config.specs.declared.Direction.the-variants.{Send, Receive}
+use Rattle.config.specs.declared.Object.{Object}
 use Rattle.table.specs.Records.{mostQueued, mostObjects, mostIpdus, absent, objectRecord}
-use Rattle.table.specs.Decode.{objectOf}
+use Rattle.config.specs.Decode.{objectOf}
 use Rattle.state.specs.declared.ObjectState.{ObjectState}
 use Rattle.state.specs.Layout.{memorySize, queues, slotAt, objectState, withObjectState}
 use Rattle.state.specs.Updates.{counted, withOld, withValue, withMarks, withQueue}
@@ -58,7 +58,7 @@ markSendError = 8
 unfoldable pub marked : ℕ → ObjectState → ObjectState
 marked mark s = withMarks (bitOr (s .marks) mark) s
 
--- ---- filters: old is the last value that passed, the occurrence rises after each filtering, passed or not
+-- ---- filters: old becomes a value that passed; every filtering counts
 
 abbrev pub passesFilter : Object → ℕ → ObjectState → Bool
 passesFilter o v s = passes (o .filter) v (s .old) (s .occurrence)
@@ -76,8 +76,8 @@ around depth p = pick (ltb p depth) p (p - depth)
 abbrev pub placeAt : ℕ → ObjectState → ℕ → ℕ
 placeAt depth s n = queues + 4 * (s .queue + around depth (s .head + n))
 
--- ---- delivery: filter, then store, set old, mark arrived. A full queue loses the new value: overflow is noted, old is set,
--- no mark.
+-- ---- delivery: what the filter passes is stored, becomes old, and is marked as arrived. Where the queue has no room it is lost: that is
+-- noted and it becomes old, with no mark.
 
 abbrev pub stored : ℕ → ℕ → ObjectState → ObjectState
 stored depth v s =
@@ -128,8 +128,8 @@ pack o v m =
 unfoldable pub unpack : Object → List ℕ → ℕ
 unpack o m = unpacked (o .order) (startBit o) (o .size .0) (part (slotAt (o .ipdu .0)) 8 m)
 
--- ---- initialise: a send object packs; a receive object sets the value, empties the queue and clears overflow. Either way old
--- becomes the value and the occurrence stays.
+-- ---- initialise: a send object's value is packed; a receive object has it as its value, an empty queue and no overflow. In both it
+-- becomes old, and nothing is counted.
 
 abbrev pub initialiseAs : Direction → Object → ℕ → ℕ → List ℕ → List ℕ
 initialiseAs Send o i v m = pack o v (withObjectState m i (withOld v (objectState m i)))

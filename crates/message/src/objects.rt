@@ -1,11 +1,11 @@
 // One message object: what a filtering, a delivery, a receive and an initialise leave of it.
 use super::ARRIVED;
+use config::Direction;
+use config::Object;
 use state::ObjectState;
 use state::QUEUES;
 use state::SLOTS;
-use table::Direction;
 use table::NONE;
-use table::Object;
 use table::ObjectNumber;
 ghost use mathlib.Core.Bool.{_&&_};
 ghost use mathlib.Core.Path.{_≡_};
@@ -16,7 +16,7 @@ ghost use Rattle.table.specs.Records.{mostQueued, mostIpdus, sending};
 ghost use Rattle.memory.specs.Bytes.{bytesOf, replaced};
 ghost use Rattle.memory.specs.Search.{pick};
 ghost use Rattle.filter.specs.Filters.{HasPeriod};
-ghost use Rattle.table.specs.declared.Direction.the-variants.{Send};
+ghost use Rattle.config.specs.declared.Direction.the-variants.{Send};
 ghost use Rattle.state.specs.Layout.{rowSize, objectRow, objectState, withObjectState};
 ghost use Rattle.state.specs.Updates.{withOld, withValue, withQueue};
 ghost use Rattle.message.specs.Objects.{Held, Placed, passesFilter, afterFilter, around, placeAt, enters, delivered, deliver, oldest, dequeue, pack, unpack, initialiseAs, initialise};

@@ -116,6 +116,6 @@ pub fn initialise(t: &[u8], c: Counts, m: &mut [u8], number: ObjectNumber, v: u3
     if n <= number.0 {
         return Answer::WrongId;
     }
-    message::initialise(m, number, table::decode_object(t, c.ipdus, number), v);
+    message::initialise(m, number, config::decode_object(t, c.ipdus, number), v);
     Answer::Done(0)
 }

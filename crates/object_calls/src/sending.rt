@@ -1,13 +1,13 @@
 // Send.
 use calls::Answer;
+use config::Mode;
+use config::Object;
+use config::Transfer;
 use table::Counts;
 use table::IpduNumber;
-use table::Mode;
 use table::NONE;
-use table::Object;
 use table::ObjectNumber;
 use table::SENDING;
-use table::Transfer;
 ghost use mathlib.Core.Path.{_≡_};
 ghost use Prim.Native.Nat.{_≤_};
 ghost use lib.ListN.{length};
@@ -32,7 +32,7 @@ pub fn send(
     if !calls::is_object(t, c, SENDING, number) {
         return Answer::WrongId;
     }
-    let o = table::decode_object(t, c.ipdus, number);
+    let o = config::decode_object(t, c.ipdus, number);
     delivery::deliver_inside(t, c, m, number, v);
     if !message::filter_sent(m, number, o, v) {
         return Answer::Done(0);
@@ -51,7 +51,7 @@ fn request(t: &[u8], m: &mut [u8], area: &mut [u8], o: Object) -> Answer
         return Answer::Done(0);
     }
     let number = o.ipdu;
-    let p = table::decode_ipdu(t, number);
+    let p = config::decode_ipdu(t, number);
     let mut s = state::ipdu_state(m, number);
     s.wanted = 1;
     let word = transmission::try_request(m, area, number, p, s);
@@ -68,7 +68,7 @@ fn wants(t: &[u8], o: Object) -> bool
         return false;
     }
     let transfer = o.transfer;
-    let p = table::decode_ipdu(t, IpduNumber(k));
+    let p = config::decode_ipdu(t, IpduNumber(k));
     let mode = p.mode;
     let triggered = is_triggered(transfer);
     let periodic = is_periodic(mode);

@@ -19,7 +19,7 @@ use Rattle.memory.proofs.Search.{picked}
 use Rattle.table.specs.declared.Counts.{Counts}
 use Rattle.table.specs.declared.IpduRecord.{IpduRecord}
 use Rattle.table.specs.Records.{ipduRecord}
-use Rattle.table.specs.Decode.{Right}
+use Rattle.table.specs.Check.{Right}
 use Rattle.table.proofs.Facts.{ipdu-facts}
 use Rattle.script.specs.Text.{lineFeed, numberField, decimal, hex}
 use Rattle.script.proofs.Decimals.{decimal-short}

@@ -10,7 +10,7 @@ use lib.Dec.{eqb}
 use lib.ListN.{length, length-append}
 use Rattle.table.specs.declared.Counts.{Counts}
 use Rattle.table.specs.Records.{counts}
-use Rattle.table.specs.Decode.{Right}
+use Rattle.table.specs.Check.{Right}
 use Rattle.state.specs.Layout.{areaSize}
 use Rattle.calls.specs.declared.Answer.{Answer}
 use Rattle.calls.specs.Answers.{numberOf, valueOf}

@@ -1,5 +1,5 @@
--- W-201: the line that is printed for a call: the status; ` val N` after a receive that gave 0 or 3, or marks that gave 0; ` req K` and
--- the I-PDU's L bytes in upper-case hex for each request, rising. Assumes nothing.
+-- W-201: the line that is printed for a call: its number, then the value that a receive or marks gave, then each request with its bytes
+-- as capital hex digits, by rising I-PDU. Assumes nothing.
 use mathlib.Core.Bool.{Bool, true, false, _||_}
 use mathlib.Core.List.{List, [], _∷_, _++_}
 use mathlib.Core.Path.{_≡_}

@@ -11,7 +11,7 @@ ghost use mathlib.Core.List.{[], _∷_};
 ghost use mathlib.Core.Path.{_≡_};
 ghost use Prim.Native.Nat.{_+_, _≤_};
 ghost use lib.ListN.{length};
-ghost use Rattle.table.specs.Decode.{Right};
+ghost use Rattle.table.specs.Check.{Right};
 ghost use Rattle.state.specs.Layout.{areaSize};
 ghost use Rattle.calls.specs.Answers.{numberOf};
 ghost use Rattle.script.specs.Text.{digitOf, lineFeed};

@@ -9,7 +9,7 @@ ghost use lib.Dec.{eqb};
 ghost use lib.ListN.{length};
 ghost use Rattle.memory.specs.Bytes.{part};
 ghost use Rattle.memory.specs.Search.{pick};
-ghost use Rattle.table.specs.Decode.{Right};
+ghost use Rattle.table.specs.Check.{Right};
 ghost use Rattle.state.specs.Layout.{areaSize};
 ghost use Rattle.script.specs.Text.{hexDigitOf, hex, lineFeed};
 ghost use Rattle.report.specs.Printing.{Put, InTable, requestText, requestTexts};

@@ -37,7 +37,7 @@ neighbours =
     ∷ shows (send 0 0 area) 0 1 (0 ∷ []) (0x0F ∷ 0xF0 ∷ replicate 6 0)
     ∷ [])
 
--- big order: from the start bit to the byte's end, then on from bit 0 of the byte before; bits of no object are 0 when sent and are not
+-- big order over two bytes, the second being the one before; bits of no object are 0 when sent and are not
 -- looked at when received
 abbrev bigOrder : Case
 bigOrder =
@@ -115,7 +115,7 @@ marksReceived =
 
 -- ---- queues
 
--- a full queue loses the new value: overflow is noted, old is set (filter 5 then drops 8), no mark; a value dropped at a full queue notes
+-- what finds no room is lost, with a note, and becomes old (filter 5 then drops 8), unmarked; a value dropped at a full queue notes
 -- nothing; the receive that gives 3 clears overflow
 abbrev fullQueue : Case
 fullQueue =

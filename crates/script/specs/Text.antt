@@ -38,7 +38,7 @@ abbrev pub numberFields : List ℕ → List ℕ
 numberFields [] = []
 numberFields (n ∷ ns) = numberField n ++ numberFields ns
 
--- ---- bytes in upper-case hex; with no bytes the field and its blank are absent
+-- ---- bytes in upper-case hex; for no bytes there is no field, and no blank before it
 
 abbrev pub hexDigitOf : ℕ → ℕ
 hexDigitOf d = pick (ltb d 10) (48 + d) (55 + d)

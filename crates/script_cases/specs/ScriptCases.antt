@@ -51,7 +51,7 @@ scriptCases =
     "0\n0 val 0\n2\n2\n2\n0\n0 val 4\n0\n0 val 0\n"
     -- over a wrong table each line that can be read prints 5
     ∷ prints (caseTable ++ 0 ∷ []) "start\nsend 0 2748\nsend 00 2748\n" "5\n5\n9 3\n"
-    -- a number above 32 bits; the calls before it stay made and printed, and nothing behind it is
+    -- a number above 32 bits; what came before is printed, and nothing after it
     ∷ prints caseTable "start\nsend 0 4294967295\nsend 0 4294967296\nstart\n" "0\n0 req 0 00E0FF01\n9 3\n"
     -- an empty script, an empty line, a last line without its line feed
     ∷ prints caseTable "" ""

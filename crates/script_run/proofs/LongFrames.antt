@@ -14,8 +14,7 @@ use Rattle.memory.proofs.Tests.{and-split, true-or-false}
 use Rattle.table.specs.declared.Counts.{Counts}
 use Rattle.table.specs.declared.Verdict.{Verdict}
 use Rattle.table.specs.declared.Verdict.the-variants.{Accepted, WrongHeader, WrongIpdu, WrongObject}
-use Rattle.table.specs.Check.{check}
-use Rattle.table.specs.Decode.{Right}
+use Rattle.table.specs.Check.{check, Right}
 use Rattle.table.specs.Records.{receiving, ipduRecord}
 use Rattle.table.proofs.Accepted.{accepted-right}
 use Rattle.state.specs.Layout.{memorySize, runningAt}

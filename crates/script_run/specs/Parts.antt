@@ -77,7 +77,7 @@ isEmpty (Second n f s) = false
 isEmpty (Bytes n f s h) = false
 isEmpty TooMany = false
 
--- a last line without its line feed can't be read
+-- what the end of the script prints where its last line was not ended
 abbrev pub endText : Progress → List ℕ
 endText p = pick (p .ended || isEmpty (p .reader)) [] (refusalLine (p .line))
 

@@ -16,8 +16,8 @@ use Rattle.memory.proofs.Search.{any-none, any-false}
 use Rattle.memory.proofs.Tests.{each-true, eq-or-ne}
 use Rattle.table.specs.declared.Counts.{Counts}
 use Rattle.table.specs.Records.{mostQueued, ipduRecord, objectRecord}
-use Rattle.table.specs.Check.{depths}
-use Rattle.table.specs.Decode.{ipduOf, Right}
+use Rattle.table.specs.Check.{depths, Right}
+use Rattle.config.specs.Decode.{ipduOf}
 use Rattle.table.proofs.Accepted.{usable}
 use Rattle.state.specs.declared.IpduState.{IpduState}
 use Rattle.state.specs.declared.ObjectState.{ObjectState}

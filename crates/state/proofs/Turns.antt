@@ -8,12 +8,12 @@ use native.Mathlib.Numerals.{add-one}
 use native.Mathlib.Omega.{arith}
 use Rattle.memory.specs.Search.{anyBelow}
 use Rattle.memory.proofs.Search.{any-more, any-some, sum-more}
-use Rattle.table.specs.declared.Ipdu.{Ipdu}
+use Rattle.config.specs.declared.Ipdu.{Ipdu}
 use Rattle.table.specs.declared.ObjectRecord.{ObjectRecord}
 use Rattle.table.specs.Records.{mostQueued, ipduRecord, objectRecord}
 use Rattle.table.specs.declared.Counts.{Counts}
-use Rattle.table.specs.Check.{depths}
-use Rattle.table.specs.Decode.{ipduOf, Right}
+use Rattle.table.specs.Check.{depths, Right}
+use Rattle.config.specs.Decode.{ipduOf}
 use Rattle.state.specs.declared.IpduState.{IpduState}
 use Rattle.state.specs.declared.ObjectState.{ObjectState}
 use Rattle.state.specs.Layout.{ipduState, objectState}

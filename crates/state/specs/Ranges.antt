@@ -9,12 +9,12 @@ use Rattle.memory.specs.Bytes.{Bytes}
 use lib.Dec.{leb, eqb}
 use Rattle.memory.specs.Search.{anyBelow}
 use Rattle.table.specs.declared.Counts.{Counts}
-use Rattle.table.specs.declared.Direction.{Direction}
-use Rattle.table.specs.declared.Direction.the-variants.{Send, Receive}
-use Rattle.table.specs.declared.Ipdu.{Ipdu}
+use Rattle.config.specs.declared.Direction.{Direction}
+use Rattle.config.specs.declared.Direction.the-variants.{Send, Receive}
+use Rattle.config.specs.declared.Ipdu.{Ipdu}
 use Rattle.table.specs.Records.{ipduRecord, objectRecord}
-use Rattle.table.specs.Check.{depths}
-use Rattle.table.specs.Decode.{ipduOf, Right}
+use Rattle.table.specs.Check.{depths, Right}
+use Rattle.config.specs.Decode.{ipduOf}
 use Rattle.state.specs.declared.IpduState.{IpduState}
 use Rattle.state.specs.declared.ObjectState.{ObjectState}
 use Rattle.state.specs.Layout.{memorySize, runningAt, ipduState, objectState}

@@ -2,9 +2,9 @@
 use super::IpduState;
 use super::ObjectState;
 use super::RUNNING;
+use config::Direction;
+use config::Ipdu;
 use table::Counts;
-use table::Direction;
-use table::Ipdu;
 use table::IpduNumber;
 use table::ObjectNumber;
 ghost use mathlib.Core.Bool.{not};
@@ -12,9 +12,8 @@ ghost use mathlib.Core.Path.{_≡_};
 ghost use Prim.Native.Nat.{_-_, _≤_, max};
 ghost use lib.ListN.{length};
 ghost use Rattle.memory.specs.Search.{anyBelow};
-ghost use Rattle.table.specs.declared.Direction.the-variants.{Send, Receive};
-ghost use Rattle.table.specs.Check.{Shape};
-ghost use Rattle.table.specs.Decode.{Right};
+ghost use Rattle.config.specs.declared.Direction.the-variants.{Send, Receive};
+ghost use Rattle.table.specs.Check.{Shape, Right};
 ghost use Rattle.state.specs.Layout.{memorySize};
 ghost use Rattle.state.specs.Ranges.{inRangeAs, ipduInRange, objectInRange, ipduOut, objectOut, inRange};
 
@@ -39,7 +38,7 @@ fn ipdus_in_range(t: &[u8], c: Counts, m: &[u8]) -> bool
     let mut k = 0;
     while k < n {
         if !ipdu_in_range(
-            table::decode_ipdu(t, IpduNumber(k)),
+            config::decode_ipdu(t, IpduNumber(k)),
             super::ipdu_state(m, IpduNumber(k)),
         ) {
             return false;

@@ -21,8 +21,7 @@ use Rattle.table.specs.declared.ObjectRecord.{ObjectRecord}
 use Rattle.table.specs.declared.Verdict.the-variants.{Accepted, WrongHeader, WrongIpdu, WrongObject}
 use Rattle.table.specs.Records.{mostQueued, sending, counts, ipduRecord, objectRecord}
 use Rattle.table.specs.Rules.{headerRight, orderOf, references, withoutIpdu, withinIpdu}
-use Rattle.table.specs.Check.{wrongIpdu, wrongAlone, overlapsLower, depths, pastDepth, wrongObject, checkObjects, checkIpdus, check}
-use Rattle.table.specs.Decode.{Right}
+use Rattle.table.specs.Check.{wrongIpdu, wrongAlone, overlapsLower, depths, pastDepth, wrongObject, checkObjects, checkIpdus, check, Right}
 use Rattle.table.proofs.Facts.{ObjectFacts, object-facts, ByteFacts, byte-facts, or-right, InIpdu, in-ipdu, picked}
 use Rattle.table.proofs.Verdicts.{header-shape}
 

@@ -5,4 +5,3 @@ pub mod Tests
 pub mod Verdicts
 pub mod Walk
 pub mod Accepted
-pub mod Lengths

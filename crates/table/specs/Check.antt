@@ -1,9 +1,9 @@
 -- Document 01, "The table": what the check names. The first wrong record, in the order header, I-PDUs, objects.
 -- Assumes nothing.
-use mathlib.Core.Bool.{Bool, not, _&&_, _||_}
+use mathlib.Core.Bool.{Bool, true, false, not, _&&_, _||_}
 use mathlib.Core.List.{List}
 use mathlib.Core.Path.{_≡_}
-use Prim.Native.Nat.{ℕ, suc, _+_, _≤_}
+use Prim.Native.Nat.{ℕ, suc, _+_, _≤_, _<_}
 use lib.Dec.{ltb, eqb}
 use lib.ListN.{length}
 use Rattle.memory.specs.Search.{pick, anyBelow, least, sumBelow}
@@ -55,7 +55,7 @@ depths t c k = sumBelow k (λ j. objectRecord t (c .ipdus) j .depth)
 abbrev pub pastDepth : List ℕ → Counts → ℕ → Bool
 pastDepth t c i = ltb mostQueued (depths t c (suc i))
 
--- wrong by itself, overlaps a lower one, or carries the depth sum past its limit
+-- what makes an object the one that is named: its record, a bit of a lower object, the sum of the depths
 abbrev pub wrongObject : List ℕ → Counts → ℕ → Bool
 wrongObject t c i = wrongAlone t c i || overlapsLower t (c .ipdus) i || pastDepth t c i
 
@@ -73,6 +73,16 @@ checkRecords t c = checkIpdus t c (least (c .ipdus) (wrongIpdu t))
 
 unfoldable pub check : List ℕ → Verdict
 check t = pick (headerRight t) (checkRecords t (counts t)) WrongHeader
+
+-- ---- a table with no wrong record
+pub record Right (t : List ℕ) (c : Counts) : Type 0 where
+  pub header : headerRight t ≡ true
+  pub counted : c ≡ counts t
+  pub shape : Shape t c
+  pub ipdus : (k : ℕ) → k < c .ipdus → ipduRight (ipduRecord t k) ≡ true
+  pub objects : (i : ℕ) → i < c .objects → objectRight (objectRecord t (c .ipdus) i) (references t c (objectRecord t (c .ipdus) i)) ≡ true
+  pub apart : (i : ℕ) → i < c .objects → overlapsLower t (c .ipdus) i ≡ false
+  pub depth : depths t c (c .objects) ≤ mostQueued
 
 -- ---- document 01's number for an answer, and what it returns: 5 with the place, 0 with 0
 abbrev pub numberOf : Verdict → ℕ

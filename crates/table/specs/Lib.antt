@@ -2,4 +2,3 @@ pub mod Records
 pub mod Rules
 pub mod Check
 pub mod Masks
-pub mod Decode

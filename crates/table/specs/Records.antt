@@ -28,7 +28,7 @@ receiving = 2
 abbrev pub absent : ℕ
 absent = 255
 
--- a header of counts and offsets comes first (16 bytes), then the I-PDU records (16), then the object records (32)
+-- 16 bytes of header, then 16 for each I-PDU, then 32 for each object
 abbrev pub ipduBase : ℕ
 ipduBase = 16
 

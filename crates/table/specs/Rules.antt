@@ -31,13 +31,13 @@ offsetsRight t c =
     && eqb (numberAt 4 12 t) 0
     && eqb (length t) (tableLength (c .ipdus) (c .objects))
 
--- the slice length equals the total; a slice under 16 bytes is a wrong header
+-- a slice of exactly the length that the header gives, and of 16 bytes at least
 unfoldable pub headerRight : List ℕ → Bool
 headerRight t = leb 16 (length t) && offsetsRight t (counts t)
 
 -- ---- an I-PDU record: direction 1 send, 2 receive; mode 0 direct, 1 periodic, 2 mixed
 
--- deadline D at least 1, F zero; mode 0 has P and offset zero, modes 1 and 2 have both at least 1; mode 1 has M zero
+-- a deadline and no first deadline; period and offset in the modes that have one, and in no other; no minimum delay in mode 1
 abbrev pub sendIpdu : IpduRecord → Bool
 sendIpdu r =
     leb 1 (r .deadline)
@@ -45,7 +45,7 @@ sendIpdu r =
     && (eqb (r .mode) 0 && eqb (r .period) 0 && eqb (r .offset) 0 || leb 1 (r .mode) && leb 1 (r .period) && leb 1 (r .offset))
     && (not (eqb (r .mode) 1) || eqb (r .«minimum_delay») 0)
 
--- mode, P, offset and M zero; F above zero needs a deadline R above zero
+-- nothing of a send I-PDU; a first deadline only with a deadline
 abbrev pub receiveIpdu : IpduRecord → Bool
 receiveIpdu r =
     eqb (r .mode) 0
@@ -75,23 +75,23 @@ references t c r =
       «sender_kind» = pick (ltb (r .sender) (c .objects)) (objectRecord t (c .ipdus) (r .sender) .kind) 0;
     }
 
--- a send object has byte 2 = 255 and depth 0
+-- a send object names no sender and has no queue
 abbrev pub sendObject : ObjectRecord → Bool
 sendObject r = eqb (r .kind) sending && eqb (r .sender) absent && eqb (r .depth) 0
 
--- a receive object has transfer 0 and at most one of I-PDU and sending object
+-- a receive object has no transfer property, and not both an I-PDU and a sender
 abbrev pub receiveObject : ObjectRecord → Bool
 receiveObject r = eqb (r .kind) receiving && eqb (r .transfer) 0 && (eqb (r .ipdu) absent || eqb (r .sender) absent)
 
--- with no I-PDU, start is 0, length 32 and order 0
+-- an object outside any I-PDU: all 32 bits from bit 0 on, little
 abbrev pub withoutIpdu : ObjectRecord → Bool
 withoutIpdu r = eqb (r .ipdu) absent && eqb (r .start) 0 && eqb (r .size) 32 && eqb (r .order) 0
 
--- the I-PDU exists and has the object's direction; all bits lie inside it
+-- the I-PDU is one of the table's, of the object's direction, and has room for all its bits
 abbrev pub withinIpdu : ObjectRecord → References → Bool
 withinIpdu r x = eqb (x .direction) (r .kind) && room (orderOf (r .order)) (r .start) (r .size) (x .length)
 
--- the sending object exists and has kind 1
+-- the sender is one of the table's send objects
 abbrev pub senderRight : ObjectRecord → References → Bool
 senderRight r x = eqb (r .sender) absent || eqb (x .«sender_kind») 1
 

@@ -27,8 +27,7 @@ pub(crate) fn claim(used: &mut [u64; 32], r: ObjectRecord) -> bool
     old & own == 0
 }
 
-// The lowest object below `end` that shares a bit with a lower one, or `end`. The pairs are searched until the first overlap is
-// met.
+// The lowest object below `end` that shares a bit with a lower one, or `end`. The pairs are compared up to the first that overlaps.
 pub(crate) fn first_pair(t: &[u8], c: Counts, end: u32) -> u32
     requires { ⌜ RightAlone (now t) c end ⌝ }
     ensures { λ r. ⌜ r ≡ least end (overlapsLower (now (t .entry)) (c .ipdus)) ⌝ }

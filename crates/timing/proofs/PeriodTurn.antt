@@ -4,7 +4,7 @@ use mathlib.Core.List.{List}
 use mathlib.Core.Path.{_≡_, sym, _∙_}
 use Prim.Native.Nat.{ℕ}
 use borrow.Author.Tests.{not-true, not-false}
-use Rattle.table.specs.declared.Ipdu.{Ipdu}
+use Rattle.config.specs.declared.Ipdu.{Ipdu}
 use Rattle.state.specs.declared.IpduState.{IpduState}
 use Rattle.state.specs.Layout.{ipduState, withIpduState}
 use Rattle.transmission.specs.Requests.{ipdu}

@@ -12,12 +12,12 @@ use Rattle.memory.specs.Search.{fold}
 use Rattle.memory.proofs.Search.{fold-keeps}
 use Rattle.memory.proofs.Tests.{and-split, or-cases, true-or-false, true-not-false}
 use Rattle.table.specs.declared.Counts.{Counts}
-use Rattle.table.specs.declared.Direction.the-variants.{Send}
-use Rattle.table.specs.declared.Ipdu.{Ipdu}
+use Rattle.config.specs.declared.Direction.the-variants.{Send}
+use Rattle.config.specs.declared.Ipdu.{Ipdu}
 use Rattle.table.specs.declared.IpduRecord.{IpduRecord}
 use Rattle.table.specs.Records.{receiving, sending, ipduRecord}
 use Rattle.table.specs.Rules.{ipduRight, sendIpdu, receiveIpdu}
-use Rattle.table.specs.Decode.{modeOf, ipduOf}
+use Rattle.config.specs.Decode.{modeOf, ipduOf}
 use Rattle.table.proofs.Facts.{ipdu-facts}
 use Rattle.state.specs.declared.IpduState.{IpduState}
 use Rattle.state.specs.Layout.{ipduState}

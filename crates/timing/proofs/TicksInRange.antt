@@ -5,7 +5,7 @@ use Prim.Native.Nat.{ℕ, _-_, _≤_, max}
 use native.Mathlib.Omega.{arith}
 use lib.Dec.{eqb}
 use Rattle.memory.specs.Search.{pick}
-use Rattle.table.specs.declared.Ipdu.{Ipdu}
+use Rattle.config.specs.declared.Ipdu.{Ipdu}
 use Rattle.state.specs.declared.IpduState.{IpduState}
 use Rattle.state.specs.Updates.{withRequest, withWanted, withPeriod}
 use Rattle.transmission.specs.Requests.{requestClosed}

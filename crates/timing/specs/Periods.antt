@@ -5,9 +5,9 @@ use mathlib.Core.List.{List}
 use Prim.Native.Nat.{ℕ}
 use Rattle.memory.specs.Search.{pick, fold}
 use Rattle.table.specs.declared.Counts.{Counts}
-use Rattle.table.specs.declared.Ipdu.{Ipdu}
-use Rattle.table.specs.declared.Mode.{Mode}
-use Rattle.table.specs.declared.Mode.the-variants.{Direct, Periodic, Mixed}
+use Rattle.config.specs.declared.Ipdu.{Ipdu}
+use Rattle.config.specs.declared.Mode.{Mode}
+use Rattle.config.specs.declared.Mode.the-variants.{Direct, Periodic, Mixed}
 use Rattle.state.specs.declared.IpduState.{IpduState}
 use Rattle.state.specs.Layout.{ipduState, withIpduState}
 use Rattle.state.specs.Updates.{withPeriod}

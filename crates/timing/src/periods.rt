@@ -1,9 +1,9 @@
 // The period of the I-PDUs that have one.
+use config::Ipdu;
+use config::Mode;
 use state::IpduState;
 use table::Counts;
-use table::Ipdu;
 use table::IpduNumber;
-use table::Mode;
 ghost use mathlib.Core.Path.{_≡_};
 ghost use Prim.Native.Nat.{_≤_, _<_};
 ghost use lib.ListN.{length};
@@ -30,7 +30,7 @@ fn period_turn(t: &[u8], c: Counts, m: &mut [u8], on: bool, number: IpduNumber)
     requires { ⌜ (memorySize ≤ length (now m)) × (number .0 < c .ipdus) ⌝ }
     ensures { λ _. ⌜ now (m .exit) ≡ periodTurn on (now (t .entry)) (number .0) (now (m .entry)) ⌝ }
 {
-    let p = table::decode_ipdu(t, number);
+    let p = config::decode_ipdu(t, number);
     let mode = p.mode;
     if !has_period(mode) {
         return;

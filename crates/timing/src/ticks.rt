@@ -1,6 +1,6 @@
 // What a tick does to the times of one I-PDU.
+use config::Ipdu;
 use state::IpduState;
-use table::Ipdu;
 ghost use mathlib.Core.Path.{_≡_};
 ghost use Prim.Native.Nat.{_-_};
 ghost use Rattle.timing.specs.Ticks.{tickDelay, deadlineExpires, tickDeadline, periodElapses, tickPeriod, timerExpires, tickTimer};

@@ -18,7 +18,7 @@ use Rattle.bits.proofs.RoundTrip.{unpacked-front}
 use Rattle.table.specs.declared.Counts.{Counts}
 use Rattle.table.specs.Records.{receiving, sending, absent, counts, ipduRecord, objectRecord}
 use Rattle.table.specs.Rules.{orderOf}
-use Rattle.table.specs.Decode.{objectOf}
+use Rattle.config.specs.Decode.{objectOf}
 use Rattle.table.proofs.Accepted.{usable}
 use Rattle.state.specs.Layout.{areaSize, slotAt, ipduState, objectState}
 use Rattle.state.specs.Ranges.{Ready}

@@ -19,8 +19,8 @@ use Rattle.table.specs.declared.Counts.{Counts}
 use Rattle.table.specs.declared.ObjectRecord.{ObjectRecord}
 use Rattle.table.specs.Records.{receiving, sending, absent, ipduRecord, objectRecord, mostIpdus}
 use Rattle.table.specs.Rules.{references, sendObject, receiveObject}
-use Rattle.table.specs.Check.{depths}
-use Rattle.table.specs.Decode.{objectOf, Right}
+use Rattle.table.specs.Check.{depths, Right}
+use Rattle.config.specs.Decode.{objectOf}
 use Rattle.table.proofs.Accepted.{usable}
 use Rattle.table.proofs.Facts.{object-facts}
 use Rattle.state.specs.declared.IpduState.{IpduState}

@@ -14,8 +14,8 @@ use Rattle.memory.specs.Search.{pick}
 use Rattle.memory.proofs.Search.{picked}
 use Rattle.memory.proofs.Tests.{true-or-false}
 use Rattle.table.specs.declared.Counts.{Counts}
-use Rattle.table.specs.declared.Direction.{Direction}
-use Rattle.table.specs.declared.Direction.the-variants.{Send, Receive}
+use Rattle.config.specs.declared.Direction.{Direction}
+use Rattle.config.specs.declared.Direction.the-variants.{Send, Receive}
 use Rattle.table.specs.Records.{receiving, sending, ipduRecord, objectRecord}
 use Rattle.table.specs.Check.{depths}
 use Rattle.state.specs.Layout.{slotAt, objectState, ipduState, withIpduState}

@@ -14,7 +14,8 @@ use Rattle.memory.proofs.Tests.{true-or-false}
 use Rattle.bits.proofs.Numbers.{bit-of-zero, bit-added}
 use Rattle.table.specs.declared.Counts.{Counts}
 use Rattle.table.specs.Records.{mostIpdus, sending, ipduRecord, objectRecord}
-use Rattle.table.specs.Decode.{ipduOf, objectOf, Right}
+use Rattle.table.specs.Check.{Right}
+use Rattle.config.specs.Decode.{ipduOf, objectOf}
 use Rattle.table.proofs.Accepted.{usable}
 use Rattle.state.specs.declared.IpduState.{IpduState}
 use Rattle.state.specs.Layout.{memorySize, slotAt, ipduState, areaSize}

@@ -16,7 +16,7 @@ use Rattle.table.specs.declared.Counts.{Counts}
 use Rattle.table.specs.declared.Verdict.the-variants.{Accepted}
 use Rattle.table.specs.Records.{receiving, counts, objectRecord}
 use Rattle.table.specs.Check.{check}
-use Rattle.table.specs.Decode.{objectOf}
+use Rattle.config.specs.Decode.{objectOf}
 use Rattle.state.specs.declared.ObjectState.{ObjectState}
 use Rattle.state.specs.Layout.{objectRows, objectRow, objectState, withObjectState}
 use Rattle.state.specs.Ranges.{Ready}

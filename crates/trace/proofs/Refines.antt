@@ -18,11 +18,12 @@ use Rattle.bits.specs.Bits.{frameBit, place, owns, packed}
 use Rattle.bits.proofs.RoundTrip.{Fits, packed-own, packed-other}
 use Rattle.bits.proofs.Places.{room-slot}
 use Rattle.table.specs.declared.Counts.{Counts}
-use Rattle.table.specs.declared.Object.{Object}
+use Rattle.config.specs.declared.Object.{Object}
 use Rattle.table.specs.declared.ObjectRecord.{ObjectRecord}
 use Rattle.table.specs.Records.{sending, absent, ipduRecord, objectRecord}
 use Rattle.table.specs.Rules.{orderOf}
-use Rattle.table.specs.Decode.{objectOf, Right}
+use Rattle.table.specs.Check.{Right}
+use Rattle.config.specs.Decode.{objectOf}
 use Rattle.table.proofs.Accepted.{usable}
 use Rattle.table.proofs.Facts.{ipdu-facts}
 use Rattle.state.specs.declared.ObjectState.{ObjectState}

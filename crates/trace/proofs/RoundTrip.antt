@@ -24,8 +24,7 @@ use Rattle.table.specs.declared.Counts.{Counts}
 use Rattle.table.specs.declared.ObjectRecord.{ObjectRecord}
 use Rattle.table.specs.Records.{sending, absent, counts, ipduRecord, objectRecord}
 use Rattle.table.specs.Rules.{orderOf}
-use Rattle.table.specs.Check.{isSent, shareBit, overlapsLower}
-use Rattle.table.specs.Decode.{Right}
+use Rattle.table.specs.Check.{isSent, shareBit, overlapsLower, Right}
 use Rattle.table.proofs.Accepted.{accepted-right, usable}
 use Rattle.state.specs.Layout.{slotAt}
 use Rattle.calls.specs.Answers.{Outcome}

@@ -17,7 +17,8 @@ use Rattle.memory.proofs.Search.{picked, any-false, fold-view}
 use Rattle.memory.proofs.Tests.{true-or-false, true-not-false}
 use Rattle.table.specs.declared.Counts.{Counts}
 use Rattle.table.specs.Records.{receiving, sending, objectRecord}
-use Rattle.table.specs.Decode.{objectOf, Right}
+use Rattle.table.specs.Check.{Right}
+use Rattle.config.specs.Decode.{objectOf}
 use Rattle.table.proofs.Accepted.{usable}
 use Rattle.state.specs.declared.ObjectState.{ObjectState}
 use Rattle.state.specs.Layout.{objectState, withObjectState, areaSize}

@@ -15,7 +15,7 @@ use Rattle.filter.specs.Filters.{nextOccurrence, passes}
 use Rattle.table.specs.declared.Counts.{Counts}
 use Rattle.table.specs.Records.{sending, objectRecord}
 use Rattle.table.specs.Check.{depths}
-use Rattle.table.specs.Decode.{objectOf}
+use Rattle.config.specs.Decode.{objectOf}
 use Rattle.state.specs.declared.ObjectState.{ObjectState}
 use Rattle.state.specs.Layout.{rowSize, runningAt, slotAt, objectRow, objectState, withObjectState}
 use Rattle.state.specs.Ranges.{Ready}

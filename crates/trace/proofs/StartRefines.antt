@@ -17,11 +17,11 @@ use Rattle.memory.proofs.Search.{fold-view}
 use Rattle.memory.proofs.Tests.{eq-or-ne, true-or-false}
 use Rattle.bits.specs.Bits.{bit, frameBit}
 use Rattle.table.specs.declared.Counts.{Counts}
-use Rattle.table.specs.declared.Direction.{Direction}
-use Rattle.table.specs.declared.Direction.the-variants.{Send, Receive}
+use Rattle.config.specs.declared.Direction.{Direction}
+use Rattle.config.specs.declared.Direction.the-variants.{Send, Receive}
 use Rattle.table.specs.Records.{sending, ipduRecord, objectRecord}
-use Rattle.table.specs.Check.{depths}
-use Rattle.table.specs.Decode.{objectOf, Right}
+use Rattle.table.specs.Check.{depths, Right}
+use Rattle.config.specs.Decode.{objectOf}
 use Rattle.state.specs.declared.ObjectState.{ObjectState}
 use Rattle.state.specs.Layout.{rowSize, memorySize, slotAt, objectRow, objectState, withObjectState}
 use Rattle.state.proofs.RowLaws.{ipdu-part, object-part, object-length, object-stored, object-other}

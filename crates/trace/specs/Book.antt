@@ -1,5 +1,5 @@
--- Document 01, "Demand 3's book": what it holds and how a call changes it. It is fed the table and the calls' arguments alone; of a
--- request area it sees the length, of working memory nothing. Assumes nothing.
+-- Document 01, "Demand 3's book": what it holds and how a call changes it. Nothing but the table and what a call is given goes into it;
+-- a request area goes in as its length, working memory not at all. Assumes nothing.
 use mathlib.Core.Bool.{Bool, true, false, not, _&&_}
 use mathlib.Core.List.{List, [], _∷_}
 use Prim.Native.Nat.{ℕ}
@@ -20,7 +20,7 @@ pub record Entry : Type 0 where
   pub object : ℕ
   pub value : ℕ
 
--- a row of entries, the latest first, a count for each send object, and stopped or not
+-- entries, the latest first; how many values of each send object were filtered; whether the layer is stopped
 pub record Book : Type 0 where
   pub entries : List Entry
   pub counts : ℕ → ℕ
@@ -37,7 +37,7 @@ enter i v es = record { object = i; value = v } ∷ es
 abbrev pub sends : List ℕ → Counts → ℕ → Bool
 sends t c i = ltb i (c .objects) && eqb (objectRecord t (c .ipdus) i .kind) sending
 
--- ---- start: an entry for each send object by rising number, with its initial value; counts 0, not stopped
+-- ---- a start enters the initial value of every send object, by rising number; no count, and it runs
 
 abbrev pub openEntry : List ℕ → Counts → ℕ → List Entry → List Entry
 openEntry t c i es = pick (eqb (objectRecord t (c .ipdus) i .kind) sending) (enter i (objectRecord t (c .ipdus) i .initial) es) es
@@ -45,8 +45,8 @@ openEntry t c i es = pick (eqb (objectRecord t (c .ipdus) i .kind) sending) (ent
 abbrev pub opened : List ℕ → Counts → Book
 opened t c = record { entries = fold (c .objects) (openEntry t c) []; counts = λ i. 0; stopped = false }
 
--- ---- send: old is the value of the object's last entry; the filter judges new, old and count; the count goes on as under Filters;
--- passed, the whole value makes an entry, else it is dropped
+-- ---- a send: the filter judges the new value by the one that was entered last and by the count, which goes on as in the layer. A
+-- value that passes is entered, whole; one that does not leaves no entry
 
 abbrev pub lastOf : ℕ → List Entry → ℕ
 lastOf i [] = 0
@@ -69,14 +69,14 @@ afterSend t c b i v =
       stopped = b .stopped;
     }
 
--- initialise of a send object: an entry; the count stays
+-- an initialise of a send object enters its value and counts nothing
 abbrev pub initialised : List ℕ → Counts → Book → ℕ → ℕ → Book
 initialised t c b i v =
     pick (sends t c i) (record { entries = enter i v (b .entries); counts = b .counts; stopped = b .stopped }) b
 
 -- ---- a call: the book is fed what it tells, and the length of its request area
 
--- whether a start, stop, send or initialise goes on, from the table, those arguments and stopped
+-- which of these calls goes on, by the table, what the call is given and whether the layer is stopped
 abbrev pub accepts : List ℕ → Counts → Book → Told → ℕ → Bool
 accepts t c b toldStart n = true
 accepts t c b toldStop n = not (b .stopped)
@@ -113,7 +113,7 @@ ownsIpduBit r k p = eqb (r .ipdu) k && owns (orderOf (r .order)) (r .start) (r .
 abbrev pub messageBit : ObjectRecord → ℕ → ℕ → ℕ
 messageBit r v p = bit v (least (r .size) (λ n. eqb (place (orderOf (r .order)) (r .start) n) p))
 
--- bit p of I-PDU k: that of the value of the last entry of an owner; any other bit is 0
+-- bit p of I-PDU k, from the latest entry whose object owns it; 0 where none does
 abbrev pub bookBit : List ℕ → Counts → List Entry → ℕ → ℕ → ℕ
 bookBit t c [] k p = 0
 bookBit t c (e ∷ es) k p =

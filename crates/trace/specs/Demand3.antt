@@ -47,7 +47,7 @@ wordIn (requests area) a = valueOf a
 abbrev pub wordOf : Call → Answer → ℕ
 wordOf call a = wordIn (describe call .lent) a
 
--- a frame: the first L bytes of slot k, where the word names I-PDU k
+-- a frame: what a named I-PDU has in its slot, as many bytes as its length
 abbrev pub frame : List ℕ → ℕ → List ℕ → List ℕ
 frame t k area = part (8 * k) (ipduRecord t k .length) area
 
@@ -56,7 +56,7 @@ names word k = bit word k ≡ 1
 
 -- ---- (a) one call, with the book before it
 
--- whether a start, stop, send or initialise is refused follows from the book
+-- such a call is refused where the book says so, and nowhere else
 abbrev pub Judged : List ℕ → Counts → Book → Told → ℕ → Bool → Type 0
 Judged t c b toldStart n went = went ≡ accepts t c b toldStart n
 Judged t c b toldStop n went = went ≡ accepts t c b toldStop n
@@ -64,7 +64,7 @@ Judged t c b (toldSend i v) n went = went ≡ accepts t c b (toldSend i v) n
 Judged t c b (toldInitialise i v) n went = went ≡ accepts t c b (toldInitialise i v) n
 Judged t c b toldNothing n went = Unit {0}
 
--- in each frame each bit is that of the value of the last entry (that call's own included) of an owner, any other bit is 0
+-- each bit of each frame is the book's, once this call is entered
 pub record CallKept (t : List ℕ) (c : Counts) (b : Book) (call : Call) (o : Outcome) : Type 0 where
   pub judged : Judged t c b (describe call .told) (length (lentBytes (describe call .lent))) (done o)
   pub named : (k : ℕ) → names (wordOf call (o .answer)) k → (k < c .ipdus) × (ipduRecord t k .direction ≡ sending)
@@ -78,7 +78,7 @@ AllKept t c b (call ∷ calls) m = CallKept t c b call (step t call m) × AllKep
 
 -- ---- (b) two lists, each with its book
 
--- a receiver inside the van: a receive object with that sending object
+-- a receive object names it as its sender
 abbrev pub inside : List ℕ → Counts → ℕ → Bool
 inside t c i = anyBelow (c .objects) (λ j. eqb (objectRecord t (c .ipdus) j .kind) receiving && eqb (objectRecord t (c .ipdus) j .sender) i)
 

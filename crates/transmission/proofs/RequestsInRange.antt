@@ -12,10 +12,10 @@ use Rattle.memory.specs.Search.{pick}
 use Rattle.memory.proofs.Parts.{number-lt}
 use Rattle.memory.proofs.Tests.{and-split}
 use Rattle.table.specs.declared.Counts.{Counts}
-use Rattle.table.specs.declared.Direction.the-variants.{Send, Receive}
-use Rattle.table.specs.declared.Ipdu.{Ipdu}
+use Rattle.config.specs.declared.Direction.the-variants.{Send, Receive}
+use Rattle.config.specs.declared.Ipdu.{Ipdu}
 use Rattle.table.specs.Records.{ipduRecord}
-use Rattle.table.specs.Decode.{ipduOf}
+use Rattle.config.specs.Decode.{ipduOf}
 use Rattle.state.specs.declared.IpduState.{IpduState}
 use Rattle.state.specs.Layout.{ipduState, withIpduState}
 use Rattle.state.specs.Updates.{withWanted}
@@ -66,7 +66,7 @@ send-kept p s d e =
     let b5 : Bool = leb (s .delay) (p .«minimum_delay») in
     let b6 : Bool = leb (s .deadline) (p .deadline) in
     let b7 : Bool = leb (s .countdown) (max (p .period) (p .offset)) in
-    let f : inRangeAs Send p s ≡ true = sym (ap (λ (x : Rattle.table.specs.declared.Direction.Direction). inRangeAs x p s) d) ∙ e in
+    let f : inRangeAs Send p s ≡ true = sym (ap (λ (x : Rattle.config.specs.declared.Direction.Direction). inRangeAs x p s) d) ∙ e in
     let a7 = and-split (b1 && b2 && b3 && b4 && b5 && b6 && b7) (eqb (s .timer) 0) f in
     let a6 = and-split (b1 && b2 && b3 && b4 && b5 && b6) b7 (a7 .0) in
     let a5 = and-split (b1 && b2 && b3 && b4 && b5) b6 (a6 .0) in
@@ -202,7 +202,7 @@ receive-kept p s d e =
     let b4 : Bool = eqb (s .delay) 0 in
     let b5 : Bool = eqb (s .deadline) 0 in
     let b6 : Bool = eqb (s .countdown) 0 in
-    let f : inRangeAs Receive p s ≡ true = sym (ap (λ (x : Rattle.table.specs.declared.Direction.Direction). inRangeAs x p s) d) ∙ e in
+    let f : inRangeAs Receive p s ≡ true = sym (ap (λ (x : Rattle.config.specs.declared.Direction.Direction). inRangeAs x p s) d) ∙ e in
     let a6 = and-split (b1 && b2 && b3 && b4 && b5 && b6) (leb (s .timer) (max (p .«first_deadline») (p .deadline))) f in
     let a5 = and-split (b1 && b2 && b3 && b4 && b5) b6 (a6 .0) in
     let a4 = and-split (b1 && b2 && b3 && b4) b5 (a5 .0) in

@@ -1,10 +1,10 @@
 // The request of one I-PDU, and its bytes in the request area.
 use bits::ByteLength;
+use config::Ipdu;
+use config::Mode;
 use state::IpduState;
 use state::SLOTS;
-use table::Ipdu;
 use table::IpduNumber;
-use table::Mode;
 ghost use mathlib.Core.Path.{_≡_};
 ghost use Prim.Native.Nat.{_+_, _*_, _%_, _^_, _≤_, _<_};
 ghost use lib.ListN.{length};

@@ -1,31 +1,31 @@
 // Records of an accepted table as structs that hold what they mean.
-use super::Counts;
 use super::Direction;
 use super::Ipdu;
-use super::IpduNumber;
-use super::IpduRecord;
 use super::Mode;
 use super::Object;
-use super::ObjectNumber;
-use super::ObjectRecord;
 use super::Transfer;
-use super::Verdict;
 use bits::BitSize;
 use bits::ByteLength;
+use table::Counts;
+use table::IpduNumber;
+use table::IpduRecord;
+use table::ObjectNumber;
+use table::ObjectRecord;
+use table::Verdict;
 ghost use mathlib.Core.Path.{_≡_};
 ghost use Prim.Native.Nat.{_+_, _*_, _≤_, _<_};
 ghost use lib.ListN.{length};
 ghost use Rattle.table.specs.Records.{objectBase, ipduRecord, objectRecord};
 ghost use Rattle.table.specs.declared.Verdict.the-variants.{Accepted};
 ghost use Rattle.table.specs.Check.{Shape};
-ghost use Rattle.table.specs.Decode.{directionOf, modeOf, transferOf, ipduOf, objectOf, lengthBy, ipduLength};
+ghost use Rattle.config.specs.Decode.{directionOf, modeOf, transferOf, ipduOf, objectOf, lengthBy, ipduLength};
 
 // An I-PDU of the table.
 pub fn decode_ipdu(t: &[u8], number: IpduNumber) -> Ipdu
     requires { ⌜ 16 + 16 * (number .0) + 16 ≤ length (now t) ⌝ }
     ensures { λ r. ⌜ r ≡ ipduOf (ipduRecord (now (t .entry)) (number .0)) ⌝ }
 {
-    ipdu_of(super::ipdu_record(t, number))
+    ipdu_of(table::ipdu_record(t, number))
 }
 
 // A message object of a table of so many I-PDUs, whose start bit lies in a slot.
@@ -34,14 +34,14 @@ pub fn decode_object(t: &[u8], ipdus: u32, number: ObjectNumber) -> Object
     requires { ⌜ objectRecord (now t) ipdus (number .0) .start < 64 ⌝ }
     ensures { λ r. ⌜ r ≡ objectOf (objectRecord (now (t .entry)) ipdus (number .0)) ⌝ }
 {
-    object_of(super::object_record(t, ipdus, number))
+    object_of(table::object_record(t, ipdus, number))
 }
 
 // The length of an I-PDU for a caller that has nothing but the table: 0 where that is wrong or has no such I-PDU.
 pub fn ipdu_length(t: &[u8], number: IpduNumber) -> ByteLength
     ensures { λ r. ⌜ r .0 ≡ ipduLength (now (t .entry)) (number .0) ⌝ }
 {
-    let verdict = super::check(t);
+    let verdict = table::check(t);
     match verdict {
         Verdict::Accepted(c) => length_in(t, c, number),
         Verdict::WrongHeader => ByteLength(0),
@@ -57,7 +57,7 @@ fn length_in(t: &[u8], c: Counts, number: IpduNumber) -> ByteLength
     let n = c.ipdus;
     let k = number.0;
     if k < n {
-        let r = super::ipdu_record(t, number);
+        let r = table::ipdu_record(t, number);
         return ByteLength(r.length);
     }
     ByteLength(0)
@@ -82,7 +82,7 @@ fn object_of(r: ObjectRecord) -> Object
     requires { ⌜ r .start < 64 ⌝ }
     ensures { λ o. ⌜ o ≡ objectOf r ⌝ }
 {
-    let order = super::order_of(r.order);
+    let order = table::order_of(r.order);
     Object {
         direction: direction_of(r.kind),
         ipdu: IpduNumber(r.ipdu),

@@ -3,12 +3,12 @@
 use mathlib.Core.List.{List}
 use mathlib.Core.Path.{_≡_, sym, _∙_}
 use Prim.Native.Nat.{ℕ}
 use Rattle.table.specs.declared.Counts.{Counts}
 use Rattle.table.specs.declared.Verdict.{Verdict}
 use Rattle.table.specs.declared.Verdict.the-variants.{Accepted}
 use Rattle.table.specs.Check.{Shape, check}
-use Rattle.table.specs.Decode.{lengthBy, ipduLength}
+use Rattle.config.specs.Decode.{lengthBy, ipduLength}
 use Rattle.table.proofs.Accepted.{accepted-right}
 
 pub verdict-shape : (t : List ℕ) (c : Counts) (v : Verdict) → v ≡ check t → v ≡ Accepted c → Shape t c
 verdict-shape t c v checks accepts = accepted-right t c (sym checks ∙ accepts) .shape

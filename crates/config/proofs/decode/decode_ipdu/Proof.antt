@@ -1,10 +1,10 @@
 -- `table::decode::decode_ipdu`: the record, then what it means.
 -- Assumes nothing.
 use mathlib.Core.Path.{_∙_, ap}
-use Rattle.table.specs.Decode.{ipduOf}
+use Rattle.config.specs.Decode.{ipduOf}
 use borrow.Author.Needs.{needs}
-use Rattle.table.proofs.decode.decode_ipdu.Statement.{statement}
-use Rattle.table.proofs.decode.decode_ipdu.Tie as tie
+use Rattle.config.proofs.decode.decode_ipdu.Statement.{statement}
+use Rattle.config.proofs.decode.decode_ipdu.Tie as tie
 
 pub decode-ipdu-spec : {M : Type 1} → statement M
 decode-ipdu-spec =

@@ -1,9 +1,9 @@
 -- `table::decode::ipdu_of`: each field means what the definition says.
 -- Assumes nothing.
-use Rattle.table.specs.Decode.{ipduOf}
+use Rattle.config.specs.Decode.{ipduOf}
 use borrow.Author.Needs.{needs}
-use Rattle.table.proofs.decode.ipdu_of.Statement.{statement}
-use Rattle.table.proofs.decode.ipdu_of.Tie as tie
+use Rattle.config.proofs.decode.ipdu_of.Statement.{statement}
+use Rattle.config.proofs.decode.ipdu_of.Tie as tie
 
 pub ipdu-of-spec : {M : Type 1} → statement M
 unfolding ipduOf

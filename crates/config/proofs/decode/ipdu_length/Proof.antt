@@ -1,9 +1,9 @@
 -- `table::decode::ipdu_length`: the length by each answer of the check.
 -- Assumes nothing.
 use borrow.Author.Needs.{needs}
-use Rattle.table.proofs.Lengths.{verdict-shape, length-as}
-use Rattle.table.proofs.decode.ipdu_length.Statement.{statement}
-use Rattle.table.proofs.decode.ipdu_length.Tie as tie
+use Rattle.config.proofs.Lengths.{verdict-shape, length-as}
+use Rattle.config.proofs.decode.ipdu_length.Statement.{statement}
+use Rattle.config.proofs.decode.ipdu_length.Tie as tie
 
 pub ipdu-length-spec : {M : Type 1} → statement M
 ipdu-length-spec =

@@ -1,8 +1,8 @@
 -- `table::decode::direction_of`: the test picks the direction.
 -- Assumes nothing.
 use borrow.Author.Tests.{eq-eqb, ne-eqb}
-use Rattle.table.proofs.decode.direction_of.Statement.{statement}
-use Rattle.table.proofs.decode.direction_of.Tie as tie
+use Rattle.config.proofs.decode.direction_of.Statement.{statement}
+use Rattle.config.proofs.decode.direction_of.Tie as tie
 
 pub direction-of-spec : {M : Type 1} → statement M
 direction-of-spec =

@@ -1,8 +1,8 @@
 -- `table::decode::mode_of`: the tests pick the mode.
 -- Assumes nothing.
 use borrow.Author.Tests.{eq-eqb, ne-eqb}
-use Rattle.table.proofs.decode.mode_of.Statement.{statement}
-use Rattle.table.proofs.decode.mode_of.Tie as tie
+use Rattle.config.proofs.decode.mode_of.Statement.{statement}
+use Rattle.config.proofs.decode.mode_of.Tie as tie
 
 pub mode-of-spec : {M : Type 1} → statement M
 mode-of-spec =

@@ -2,8 +2,8 @@
 -- Assumes nothing.
 use borrow.Author.Needs.{needs}
 use borrow.Author.Tests.{lt-ltb, le-ltb}
-use Rattle.table.proofs.decode.length_in.Statement.{statement}
-use Rattle.table.proofs.decode.length_in.Tie as tie
+use Rattle.config.proofs.decode.length_in.Statement.{statement}
+use Rattle.config.proofs.decode.length_in.Tie as tie
 
 pub length-in-spec : {M : Type 1} → statement M
 length-in-spec =

@@ -1,10 +1,10 @@
 -- `table::decode::decode_object`: the record, then what it means.
 -- Assumes nothing.
 use mathlib.Core.Path.{_∙_, ap}
-use Rattle.table.specs.Decode.{objectOf}
+use Rattle.config.specs.Decode.{objectOf}
 use borrow.Author.Needs.{needs}
-use Rattle.table.proofs.decode.decode_object.Statement.{statement}
-use Rattle.table.proofs.decode.decode_object.Tie as tie
+use Rattle.config.proofs.decode.decode_object.Statement.{statement}
+use Rattle.config.proofs.decode.decode_object.Tie as tie
 
 pub decode-object-spec : {M : Type 1} → statement M
 decode-object-spec =

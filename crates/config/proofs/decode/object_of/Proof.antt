@@ -1,9 +1,9 @@
 -- `table::decode::object_of`: each field means what the definition says.
 -- Assumes nothing.
-use Rattle.table.specs.Decode.{objectOf}
+use Rattle.config.specs.Decode.{objectOf}
 use borrow.Author.Needs.{needs}
-use Rattle.table.proofs.decode.object_of.Statement.{statement}
-use Rattle.table.proofs.decode.object_of.Tie as tie
+use Rattle.config.proofs.decode.object_of.Statement.{statement}
+use Rattle.config.proofs.decode.object_of.Tie as tie
 
 pub object-of-spec : {M : Type 1} → statement M
 unfolding objectOf

@@ -1,8 +1,8 @@
 -- `table::decode::transfer_of`: the test picks the transfer.
 -- Assumes nothing.
 use borrow.Author.Tests.{eq-eqb, ne-eqb}
-use Rattle.table.proofs.decode.transfer_of.Statement.{statement}
-use Rattle.table.proofs.decode.transfer_of.Tie as tie
+use Rattle.config.proofs.decode.transfer_of.Statement.{statement}
+use Rattle.config.proofs.decode.transfer_of.Tie as tie
 
 pub transfer-of-spec : {M : Type 1} → statement M
 transfer-of-spec =
