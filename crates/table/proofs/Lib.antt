@@ -5,3 +5,4 @@ pub mod Tests
 pub mod Verdicts
 pub mod Walk
 pub mod Accepted
+pub mod Pairs
