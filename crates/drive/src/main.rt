@@ -1,5 +1,5 @@
 // Runs a script over a table and prints a line for each call: `drive TABLE SCRIPT`. docs/SCRIPT.md has the language.
-mod files;
+mod running;
 
 use libc::STDERR_FILENO;
 use libc::STDOUT_FILENO;
@@ -25,7 +25,7 @@ fn main() {
     }
     let mut second = io::buffer();
     let k = os::arg(2, &mut second);
-    files::run(&first[..n], &second[..k]);
+    running::run(&first[..n], &second[..k]);
 }
 
 fn usage(fd: i32) {

@@ -1,13 +1,13 @@
--- `drive::files::fill`: what was read lies inside the bytes lent, and the turns fall.
+-- `files::fill`: what was read lies inside the bytes lent, and the turns fall.
 -- Assumes nothing.
 use mathlib.Core.Path.{_≡_, refl}
 use Prim.Native.Nat.{_≤_}
 use native.Mathlib.Omega.{arith}
 use borrow.Author.Needs.{needs}
 use lib.ListN.{length}
-use Rattle.drive.proofs.Within.{within}
-use Rattle.drive.proofs.files.fill.Statement.{statement}
-use Rattle.drive.proofs.files.fill.Tie as tie
+use Rattle.files.proofs.Within.{within}
+use Rattle.files.proofs.fill.Statement.{statement}
+use Rattle.files.proofs.fill.Tie as tie
 
 abbrev Inv-loop : tie.InvT-loop
 Inv-loop fd path bytes₀ n done₀ turns₀ bytes done turns = (done ≤ length bytes₀) × (length bytes ≡ length bytes₀)

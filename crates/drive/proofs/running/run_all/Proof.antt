@@ -1,10 +1,10 @@
--- `drive::files::run_all`: the buffers keep their lengths, and the turns fall.
+-- `drive::running::run_all`: the buffers keep their lengths, and the turns fall.
 -- Assumes nothing.
 use mathlib.Core.Path.{_≡_}
 use borrow.Author.Needs.{needs}
 use lib.ListN.{length}
-use Rattle.drive.proofs.files.run_all.Statement.{statement}
-use Rattle.drive.proofs.files.run_all.Tie as tie
+use Rattle.drive.proofs.running.run_all.Statement.{statement}
+use Rattle.drive.proofs.running.run_all.Tie as tie
 
 abbrev Inv-loop : tie.InvT-loop
 Inv-loop t fd path memory₀ area₀ part₀ out₀ progress₀ turns₀ memory area part out progress turns =

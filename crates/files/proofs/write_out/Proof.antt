@@ -1,9 +1,9 @@
--- `drive::files::write_out`: the bytes written lie inside the buffer.
+-- `files::write_out`: the bytes written lie inside the buffer.
 -- Assumes nothing.
 use borrow.Author.Needs.{needs}
-use Rattle.drive.proofs.Within.{within}
-use Rattle.drive.proofs.files.write_out.Statement.{statement}
-use Rattle.drive.proofs.files.write_out.Tie as tie
+use Rattle.files.proofs.Within.{within}
+use Rattle.files.proofs.write_out.Statement.{statement}
+use Rattle.files.proofs.write_out.Tie as tie
 
 pub write-out-spec : {M : Type 1} → statement M
 write-out-spec =

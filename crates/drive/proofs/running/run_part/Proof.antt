@@ -1,12 +1,12 @@
--- `drive::files::run_part`: what was read lies inside the part, and the turns fall.
+-- `drive::running::run_part`: what was read lies inside the part, and the turns fall.
 -- Assumes nothing.
 use mathlib.Core.Path.{_≡_, refl}
 use Prim.Native.Nat.{_≤_}
 use native.Mathlib.Omega.{arith}
 use borrow.Author.Needs.{needs}
 use lib.ListN.{length}
-use Rattle.drive.proofs.files.run_part.Statement.{statement}
-use Rattle.drive.proofs.files.run_part.Tie as tie
+use Rattle.drive.proofs.running.run_part.Statement.{statement}
+use Rattle.drive.proofs.running.run_part.Tie as tie
 
 abbrev Inv-loop : tie.InvT-loop
 Inv-loop t memory₀ area₀ part out₀ n at₀ p₀ turns₀ memory area out at p turns =

@@ -1,21 +1,13 @@
-// The two files: the table is read whole, the script part by part.
+// A script over a table: the table is read whole, the script part by part.
 use driver::Part;
 use driver::Progress;
 use layer::AREA_SIZE;
 use layer::MEMORY_SIZE;
-use libc::STDOUT_FILENO;
 ghost use Prim.Native.Nat.{_≤_};
 ghost use lib.ListN.{length};
-ghost use Rattle.io.specs.Counts.{Counts};
 
 // One byte more than the largest table: whatever is longer is a wrong header, as that much of it is.
 const ROOM: usize = table::LARGEST + 1;
-
-// Whether a file could be read, and how many bytes of it.
-struct Filled {
-    whole: bool,
-    count: usize,
-}
 
 // Whether the script could be read to its end, and what is kept of it.
 struct End {
@@ -25,7 +17,7 @@ struct End {
 
 pub(crate) fn run(table: &[u8], script: &[u8]) {
     let mut bytes = [0u8; ROOM];
-    let filled = read_table(table, &mut bytes);
+    let filled = files::read_whole(table, &mut bytes);
     if !filled.whole {
         return;
     }
@@ -37,50 +29,6 @@ pub(crate) fn run(table: &[u8], script: &[u8]) {
     }
     run_script(&bytes[..n], fd, script);
     libc::close(fd);
-}
-
-fn read_table(path: &[u8], bytes: &mut [u8]) -> Filled
-    ensures { λ r. ⌜ Counts (r .count) (now (bytes .exit)) ⌝ }
-{
-    let fd = os::open_read(path);
-    if fd < 0 {
-        os::fail(path);
-        return Filled {
-            whole: false,
-            count: 0,
-        };
-    }
-    let filled = fill(fd, path, bytes);
-    libc::close(fd);
-    filled
-}
-
-// Reads until `bytes` is full or the file ends. Each turn but the last reads a byte or more.
-fn fill(fd: i32, path: &[u8], bytes: &mut [u8]) -> Filled
-    ensures { λ r. ⌜ Counts (r .count) (now (bytes .exit)) ⌝ }
-{
-    let n = bytes.len();
-    let mut done = 0;
-    let mut turns = n;
-    while turns > 0 {
-        turns -= 1;
-        let got = libc::read(fd, &mut bytes[done..]);
-        if got < 0 {
-            os::fail(path);
-            return Filled {
-                whole: false,
-                count: 0,
-            };
-        }
-        done += io::count(got, &bytes[done..]);
-        if got == 0 {
-            break;
-        }
-    }
-    Filled {
-        whole: true,
-        count: done,
-    }
 }
 
 fn run_script(t: &[u8], fd: i32, path: &[u8]) {
@@ -106,7 +54,7 @@ fn run_parts(
         return;
     }
     let n = driver::finish(out, end.progress);
-    write_out(out, n);
+    files::write_out(out, n);
 }
 
 // Reads the script part by part, and runs each. A proved loop has to end, and nothing says that a file does: no run uses up its turns.
@@ -180,12 +128,6 @@ fn run_some(
     ensures { λ r. ⌜ r .read ≤ length (now (part .entry)) ⌝ }
 {
     let done = driver::run_some(t, memory, area, part, out, progress);
-    write_out(out, done.written);
+    files::write_out(out, done.written);
     done
-}
-
-fn write_out(out: &[u8], n: usize)
-    requires { ⌜ n ≤ length (now out) ⌝ }
-{
-    io::write_all(STDOUT_FILENO, &out[..n]);
 }
