@@ -112,7 +112,7 @@ def check_layout(layout):
         same(f"{file}, {group}State", {name: (int(at), int(size)) for name, size, at in rows}, numbers(layout, group))
         fields = re.findall(r"fieldAt (\d+) (\d+) \(s \.(\w+)\)", found(rf"^{group}Fields s =(.*?)\[\]$", source, file))
         same(f"{file}, {group}Fields", {name: (int(at), int(size)) for at, size, name in fields}, numbers(layout, group))
-    file = "crates/message/specs/Objects.antt"
+    file = "crates/queue/specs/Queues.antt"
     place = found(r"^placeAt depth s n = queues \+ (\d+) \*", text(*file.split("/")), file)
     same(f"{file}, placeAt", int(place), groups["queue_places"]["stride"])
 

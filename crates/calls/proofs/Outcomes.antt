@@ -24,9 +24,10 @@ use Rattle.state.specs.Layout.{rowSize, memorySize, slotAt, ipduRow, ipduState,
 use Rattle.state.specs.Updates.{withMarks, withWanted}
 use Rattle.state.specs.Ranges.{Ready}
 use Rattle.state.proofs.Ready.{ready-bytes}
-use Rattle.message.specs.Objects.{object, Held, Placed, markSent, markSendError, markReceiveError, passesFilter, afterFilter, oldest, dequeue, pack, initialise}
+use Rattle.message.specs.Objects.{object, Placed, markSent, markSendError, markReceiveError, passesFilter, afterFilter, pack, initialise}
+use Rattle.queue.specs.Queues.{Held, oldest, dequeue}
 use Rattle.delivery.specs.Delivery.{deliverInside, deliverFrame, markObjects}
-use Rattle.message.proofs.RingPlaces.{placed-after}
+use Rattle.message.proofs.ObjectSteps.{placed-after}
 use Rattle.message.proofs.ObjectsInRange.{right-start, ready-held, decoded-placed}
 use Rattle.transmission.specs.Requests.{ipdu, isDue, afterRequest, copiedToArea, confirmed, timerSet}
 use Rattle.calls.specs.declared.Answer.{Answer}

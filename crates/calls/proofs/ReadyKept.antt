@@ -25,9 +25,10 @@ use Rattle.state.specs.Updates.{withOld, withValue, withMarks, withQueue, withW
 use Rattle.state.specs.Ranges.{Ready}
 use Rattle.state.proofs.Ready.{ready-kept, ready-object}
 use Rattle.state.proofs.Running.{ready-running}
-use Rattle.message.specs.Objects.{object, around, dequeued, dequeue, pack, initialiseAs, initialise, markSent, markReceiveError, markSendError}
+use Rattle.message.specs.Objects.{object, pack, initialiseAs, initialise, markSent, markReceiveError, markSendError}
+use Rattle.queue.specs.Queues.{around, dequeued, dequeue}
 use Rattle.delivery.specs.Delivery.{deliverFrame, markObjects}
-use Rattle.message.proofs.RingPlaces.{around-lt}
+use Rattle.queue.proofs.RingPlaces.{around-lt}
 use Rattle.message.proofs.ObjectsInRange.{kept-old, kept-value, kept-marks, kept-queue, ready-pack}
 use Rattle.delivery.proofs.DeliveriesInRange.{ready-frame, ready-mark}
 use Rattle.transmission.specs.Requests.{ipdu, afterRequest, confirmed}

@@ -20,7 +20,8 @@ use Rattle.state.specs.declared.IpduState.{IpduState}
 use Rattle.state.specs.declared.ObjectState.{ObjectState}
 use Rattle.state.specs.Layout.{withRunning, slotAt, ipduState, withIpduState, objectState, withObjectState}
 use Rattle.state.specs.Updates.{withMarks, withWanted}
-use Rattle.message.specs.Objects.{object, markSent, markReceiveError, markSendError, passesFilter, afterFilter, oldest, dequeue, pack, initialise}
+use Rattle.message.specs.Objects.{object, markSent, markReceiveError, markSendError, passesFilter, afterFilter, pack, initialise}
+use Rattle.queue.specs.Queues.{oldest, dequeue}
 use Rattle.delivery.specs.Delivery.{deliverInside, deliverFrame, markObjects}
 use Rattle.transmission.specs.Requests.{ipdu, isDue, afterRequest, copiedToArea, confirmed, timerSet}
 use Rattle.timing.specs.Periods.{setPeriods}

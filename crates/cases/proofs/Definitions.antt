@@ -10,7 +10,8 @@ use Rattle.table.specs.Check.{shareBit, overlapsLower, check}
 use Rattle.config.specs.Decode.{ipduOf, objectOf}
 use Rattle.state.specs.Layout.{runningAt, withRunning, ipduState, withIpduState, objectState, withObjectState}
 use Rattle.state.specs.Ranges.{ipduInRange, objectInRange, inRange}
-use Rattle.message.specs.Objects.{marked, afterFilter, delivered, deliver, oldest, dequeue, pack, unpack, initialise}
+use Rattle.message.specs.Objects.{marked, afterFilter, delivered, deliver, pack, unpack, initialise}
+use Rattle.queue.specs.Queues.{oldest, dequeue}
 use Rattle.delivery.specs.Delivery.{deliverInside, deliverFrame, markObjects}
 use Rattle.transmission.specs.Requests.{isDue, requestMade, afterRequest, copiedToArea, confirmed, timerSet}
 use Rattle.timing.specs.Periods.{periodSet, setPeriods}
@@ -18,7 +19,7 @@ use Rattle.timing.specs.Ticks.{tickDelay, deadlineExpires, tickDeadline, period
 use Rattle.layer.specs.Admission.{admission, startAdmission}
 use Rattle.calls.specs.Calls.{stopIn, wants, request, sendOf, sendIn, initialiseIn, receiveIn, statusIn, marksIn, clearMarksIn, periodicIn, indicationIn, confirmIn}
 use Rattle.calls.specs.Tick.{tickIpdu, tickIn}
-use Rattle.layer.specs.Start.{blank, prepared, started}
+use Rattle.startup.specs.Start.{blank, prepared, started}
 use Rattle.layer.specs.Step.{step}
 
 unfoldable pub bitDefinitions : Unit {0}

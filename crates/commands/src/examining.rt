@@ -26,7 +26,7 @@ fn examine_memory(t: &[u8], c: Counts, m: &[u8]) -> Ground
     if m.len() < MEMORY_SIZE {
         return Ground::Unknown;
     }
-    if state::in_range(t, c, &m[..MEMORY_SIZE]) {
+    if ranges::in_range(t, c, &m[..MEMORY_SIZE]) {
         return Ground::Known(c);
     }
     Ground::Unknown

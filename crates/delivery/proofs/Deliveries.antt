@@ -20,10 +20,10 @@ use Rattle.config.specs.Decode.{objectOf}
 use Rattle.state.specs.Layout.{queues, objectState}
 use Rattle.state.specs.Ranges.{Ready}
 use Rattle.state.proofs.Ready.{ready-kept}
-use Rattle.message.specs.Objects.{object, Held, deliver, startBit, unpack}
+use Rattle.message.specs.Objects.{object, deliver, startBit, unpack}
+use Rattle.queue.specs.Queues.{Held, waiting}
 use Rattle.delivery.specs.Delivery.{insideTurn, deliverInside, frameTurn, deliverFrame}
-use Rattle.message.specs.Queues.{waiting}
-use Rattle.message.proofs.RingPlaces.{around-lt}
+use Rattle.queue.proofs.RingPlaces.{around-lt}
 use Rattle.message.proofs.ObjectsInRange.{ready-held, ready-deliver, unpack-lt}
 use Rattle.message.proofs.Apart.{deliver-other, deliver-slot}
 use Rattle.delivery.proofs.DeliveredRows.{deliverTurn, turns-ready}

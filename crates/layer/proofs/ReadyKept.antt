@@ -19,11 +19,11 @@ use Rattle.calls.proofs.ReadyKept.{ready-stop, ready-send, ready-initialise, re
 use Rattle.calls.proofs.ReadyKept.{ready-indication, ready-confirm, ready-tick}
 use Rattle.layer.specs.declared.Admission.{Admission}
 use Rattle.layer.specs.Admission.{workingMemory, admission, startAdmission, ifAdmitted}
-use Rattle.layer.specs.Start.{prepared, started}
+use Rattle.startup.specs.Start.{prepared, started}
 use Rattle.layer.specs.Step.{Call, start, stop, send, initialise, receive, status, marks, clearMarks, startPeriodic, stopPeriodic, indication, confirm, tick}
 use Rattle.layer.specs.Step.{lentBytes, longEnough, toldSend, toldInitialise, describe, step}
 use Rattle.layer.proofs.Admitted.{front-of}
-use Rattle.layer.proofs.StartInRange.{prepared-ready}
+use Rattle.startup.proofs.StartInRange.{prepared-ready}
 
 pub start-ready : (t : List ℕ) (c : Counts) → Right t c → Bytes t → Ready t c (started t c)
 unfolding started

@@ -13,7 +13,7 @@ use Rattle.calls.specs.Calls.{stopIn, sendIn, initialiseIn, receiveIn, statusIn
 use Rattle.calls.specs.Tick.{tickIn}
 use Rattle.layer.specs.declared.Admission.{Admission}
 use Rattle.layer.specs.Admission.{admission, startAdmission, ifAdmitted}
-use Rattle.layer.specs.Start.{startIn}
+use Rattle.startup.specs.Start.{startIn}
 
 -- a call with its arguments: i is an object's number, k an I-PDU's. A send and a tick are lent a request area.
 pub data Call : Type 0 where

@@ -42,7 +42,7 @@ fn admit_front(t: &[u8], c: Counts, m: &[u8]) -> Admission
     requires { ⌜ memorySize ≤ length (now m) ⌝ }
     ensures { λ r. ⌜ r ≡ admissionFront c (now (t .entry)) (now (m .entry)) ⌝ }
 {
-    if !state::in_range(t, c, m) {
+    if !ranges::in_range(t, c, m) {
         return Admission::Refused(Answer::WrongMemory);
     }
     if memory::read8(m, RUNNING) == 0 {

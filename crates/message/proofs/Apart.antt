@@ -19,8 +19,9 @@ use Rattle.state.specs.Layout.{rowSize, queues, slotAt, objectRow, objectState}
 use Rattle.state.specs.Ranges.{Ready}
 use Rattle.state.proofs.RowLaws.{object-part, object-stored, object-read}
 use Rattle.state.proofs.Ready.{kept-fits, object-row, ready-kept}
-use Rattle.message.specs.Objects.{object, passesFilter, placeAt, delivered, enters, deliver}
-use Rattle.message.proofs.RingPlaces.{queue-room}
+use Rattle.message.specs.Objects.{object, passesFilter, delivered, enters, deliver}
+use Rattle.queue.specs.Queues.{placeAt}
+use Rattle.queue.proofs.RingPlaces.{queue-room}
 use Rattle.message.proofs.ObjectsInRange.{ready-held, kept-delivered}
 
 -- a part of row j lies before row i or after it, and before the queues

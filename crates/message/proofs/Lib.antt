@@ -1,4 +1,4 @@
-pub mod RingPlaces
+pub mod ObjectSteps
 pub mod ObjectsInRange
 pub mod Apart
 pub mod Queues

@@ -29,8 +29,9 @@ use Rattle.state.specs.Layout.{memorySize, slotAt, objectState}
 use Rattle.state.specs.Updates.{withOld, withValue, withMarks, withQueue}
 use Rattle.state.specs.Ranges.{Ready}
 use Rattle.state.proofs.Ready.{ObjectKept, in-queues, ready-kept, ready-object, ready-bytes}
-use Rattle.message.specs.Objects.{object, Held, Placed, marked, passesFilter, afterFilter, placeAt, stored, delivered, enters, deliver, startBit, pack, unpack}
-use Rattle.message.proofs.RingPlaces.{queue-room}
+use Rattle.message.specs.Objects.{object, Placed, marked, passesFilter, afterFilter, stored, delivered, enters, deliver, startBit, pack, unpack}
+use Rattle.queue.specs.Queues.{Held, placeAt}
+use Rattle.queue.proofs.RingPlaces.{queue-room}
 
 -- ---- rows
 

@@ -23,9 +23,9 @@ use Rattle.config.specs.declared.Object.{Object}
 use Rattle.state.specs.declared.ObjectState.{ObjectState}
 use Rattle.state.specs.Layout.{rowSize, queues, objectRow, objectFields, objectState, withObjectState}
 use Rattle.state.proofs.RowLaws.{object-part}
-use Rattle.message.specs.Objects.{Held, marked, passesFilter, afterFilter, around, placeAt, delivered, enters, deliver, oldest, dequeued, dequeue}
-use Rattle.message.specs.Queues.{valueBehind, oldestValues, waiting}
-use Rattle.message.proofs.RingPlaces.{around-lt, queue-room}
+use Rattle.message.specs.Objects.{marked, passesFilter, afterFilter, delivered, enters, deliver}
+use Rattle.queue.specs.Queues.{Held, around, placeAt, oldest, dequeued, dequeue, valueBehind, oldestValues, waiting}
+use Rattle.queue.proofs.RingPlaces.{around-lt, queue-room}
 
 -- ---- places of the ring
 

@@ -3,11 +3,11 @@
 use mathlib.Core.Bool.{Bool, false, _&&_}
 use mathlib.Core.Path.{_≡_}
 use mathlib.Core.List.{List}
-use Prim.Native.Nat.{ℕ, _+_, _-_, _*_, _≤_, _<_}
+use Prim.Native.Nat.{ℕ, _+_, _-_, _≤_, _<_}
 use lib.Bits.{bitOr}
 use lib.Dec.{ltb, eqb}
 use lib.ListN.{length}
-use Rattle.memory.specs.Bytes.{bytesOf, part, numberAt, replaced}
+use Rattle.memory.specs.Bytes.{bytesOf, part, replaced}
 use Rattle.memory.specs.Search.{pick}
 use Rattle.bits.specs.Bits.{packed, unpacked}
 use Rattle.bits.specs.Slots.{position, InSlot}
@@ -16,24 +16,16 @@ use Rattle.table.specs.declared.Counts.{Counts}
 use Rattle.config.specs.declared.Direction.{Direction}
 use Rattle.config.specs.declared.Direction.the-variants.{Send, Receive}
 use Rattle.config.specs.declared.Object.{Object}
-use Rattle.table.specs.Records.{mostQueued, mostObjects, mostIpdus, absent, objectRecord}
+use Rattle.table.specs.Records.{mostIpdus, absent, objectRecord}
 use Rattle.config.specs.Decode.{objectOf}
 use Rattle.state.specs.declared.ObjectState.{ObjectState}
-use Rattle.state.specs.Layout.{memorySize, queues, slotAt, objectState, withObjectState}
+use Rattle.state.specs.Layout.{memorySize, slotAt, objectState, withObjectState}
 use Rattle.state.specs.Updates.{counted, withOld, withValue, withMarks, withQueue}
+use Rattle.queue.specs.Queues.{placeAt}
 
 -- message object i of a table
 abbrev pub object : List ℕ → Counts → ℕ → Object
 object t c i = objectOf (objectRecord t (c .ipdus) i)
-
--- what its functions ask for: a row in range, of an object with this queue depth
-pub record Held (depth i : ℕ) (m : List ℕ) : Type 0 where
-  pub number : i < mostObjects
-  pub long : memorySize ≤ length m
-  pub few : depth ≤ 16
-  pub count : objectState m i .count ≤ depth
-  pub head : objectState m i .head ≤ depth - 1
-  pub queue : objectState m i .queue + depth ≤ mostQueued
 
 -- an object whose bits lie in a slot
 pub record Placed (o : Object) (m : List ℕ) : Type 0 where
@@ -66,16 +58,6 @@ passesFilter o v s = passes (o .filter) v (s .old) (s .occurrence)
 unfoldable pub afterFilter : Bool → ℕ → ObjectState → ObjectState
 afterFilter passed v s = counted (pick passed (withOld v s) s)
 
--- ---- queues: a ring of as many places as the depth
-
--- place p of the ring: behind the last place is the first
-abbrev pub around : ℕ → ℕ → ℕ
-around depth p = pick (ltb p depth) p (p - depth)
-
--- where the value behind the n oldest ones stands
-abbrev pub placeAt : ℕ → ObjectState → ℕ → ℕ
-placeAt depth s n = queues + 4 * (s .queue + around depth (s .head + n))
-
 -- ---- delivery: what the filter passes is stored, becomes old, and is marked as arrived. Where the queue has no room it is lost: that is
 -- noted and it becomes old, with no mark.
 
@@ -100,17 +82,6 @@ delivery passed o i v s m =
 
 unfoldable pub deliver : Object → ℕ → ℕ → List ℕ → List ℕ
 deliver o i v m = delivery (passesFilter o v (objectState m i)) o i v (objectState m i) m
-
--- ---- receive of a queued object: the oldest value, and the queue without it and with overflow cleared
-
-unfoldable pub oldest : ℕ → ℕ → List ℕ → ℕ
-oldest depth i m = numberAt 4 (placeAt depth (objectState m i) 0) m
-
-abbrev pub dequeued : ℕ → ObjectState → ObjectState
-dequeued depth s = withQueue 0 (around depth (s .head + 1)) (s .count - 1) s
-
-unfoldable pub dequeue : ℕ → ℕ → List ℕ → List ℕ
-dequeue depth i m = withObjectState m i (dequeued depth (objectState m i))
 
 -- ---- the bits of an object in its I-PDU
 

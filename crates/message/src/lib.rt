@@ -3,10 +3,8 @@
 mod objects;
 
 pub use objects::deliver;
-pub use objects::dequeue;
 pub use objects::filter_sent;
 pub use objects::initialise;
-pub use objects::oldest;
 pub use objects::pack;
 pub use objects::unpack;
 

@@ -3,23 +3,19 @@ use super::ARRIVED;
 use config::Direction;
 use config::Object;
 use state::ObjectState;
-use state::QUEUES;
 use state::SLOTS;
 use table::NONE;
 use table::ObjectNumber;
-ghost use mathlib.Core.Bool.{_&&_};
 ghost use mathlib.Core.Path.{_≡_};
 ghost use Prim.Native.Nat.{_+_, _≤_, _<_};
-ghost use lib.Dec.{ltb};
 ghost use lib.ListN.{length};
-ghost use Rattle.table.specs.Records.{mostQueued, mostIpdus, sending};
-ghost use Rattle.memory.specs.Bytes.{bytesOf, replaced};
-ghost use Rattle.memory.specs.Search.{pick};
+ghost use Rattle.table.specs.Records.{mostIpdus, sending};
 ghost use Rattle.filter.specs.Filters.{HasPeriod};
 ghost use Rattle.config.specs.declared.Direction.the-variants.{Send};
 ghost use Rattle.state.specs.Layout.{rowSize, objectRow, objectState, withObjectState};
 ghost use Rattle.state.specs.Updates.{withOld, withValue, withQueue};
-ghost use Rattle.message.specs.Objects.{Held, Placed, passesFilter, afterFilter, around, placeAt, enters, delivered, deliver, oldest, dequeue, pack, unpack, initialiseAs, initialise};
+ghost use Rattle.message.specs.Objects.{Placed, passesFilter, afterFilter, delivered, deliver, pack, unpack, initialiseAs, initialise};
+ghost use Rattle.queue.specs.Queues.{Held};
 
 // Delivers a value to a receive object.
 pub fn deliver(m: &mut [u8], number: ObjectNumber, o: Object, v: u32)
@@ -30,10 +26,10 @@ pub fn deliver(m: &mut [u8], number: ObjectNumber, o: Object, v: u32)
     let s = state::object_state(m, number);
     let f = o.filter;
     let passed = filter::passes(f, v, s.old, s.occurrence);
-    enqueue(
+    queue::enqueue(
         m,
         passed & (s.count < o.depth),
-        place_at(o.depth, s, s.count),
+        queue::place_at(o.depth, s, s.count),
         v,
     );
     state::set_object_state(m, number, delivered(passed, o.depth, v, s));
@@ -51,29 +47,6 @@ pub fn filter_sent(m: &mut [u8], number: ObjectNumber, o: Object, v: u32) -> boo
     let passed = filter::passes(f, v, s.old, s.occurrence);
     state::set_object_state(m, number, after_filter(passed, v, s));
     passed
-}
-
-// The oldest value of a queue.
-pub fn oldest(m: &[u8], number: ObjectNumber, depth: u32) -> u32
-    requires { ⌜ Held depth (number .0) (now m) ⌝ }
-    ensures { λ r. ⌜ r ≡ oldest depth (number .0) (now (m .entry)) ⌝ }
-{
-    let s = state::object_state(m, number);
-    memory::read32(m, place_at(depth, s, 0))
-}
-
-// Removes the oldest value of a queue that has one, and clears overflow.
-pub fn dequeue(m: &mut [u8], number: ObjectNumber, depth: u32)
-    requires { ⌜ Held depth (number .0) (now m) ⌝ }
-    requires { ⌜ 0 < objectState (now m) (number .0) .count ⌝ }
-    ensures { λ _. ⌜ now (m .exit) ≡ dequeue depth (number .0) (now (m .entry)) ⌝ }
-{
-    let s = state::object_state(m, number);
-    let mut next = s;
-    next.overflow = 0;
-    next.head = around(depth, s.head + 1);
-    next.count = s.count - 1;
-    state::set_object_state(m, number, next);
 }
 
 // Packs a value into the object's I-PDU, where it has one.
@@ -170,34 +143,4 @@ fn delivered(passed: bool, depth: u32, v: u32, s: ObjectState) -> ObjectState
     }
     next.overflow = 1;
     next
-}
-
-// Writes a value at its place, where it enters the queue.
-fn enqueue(m: &mut [u8], enters: bool, at: usize, v: u32)
-    requires { ⌜ at + 4 ≤ length (now m) ⌝ }
-    ensures { λ _. ⌜ now (m .exit) ≡ pick enters (replaced at (bytesOf 4 v) (now (m .entry))) (now (m .entry)) ⌝ }
-{
-    if !enters {
-        return;
-    }
-    memory::write32(m, at, v);
-}
-
-// The byte where the value behind the `n` oldest ones stands.
-fn place_at(depth: u32, s: ObjectState, n: u32) -> usize
-    requires { ⌜ (s .queue ≤ mostQueued) × (s .head ≤ 16) × (n ≤ 16) ⌝ }
-    ensures { λ r. ⌜ r ≡ placeAt depth s n ⌝ }
-{
-    let place = s.queue + around(depth, s.head + n);
-    QUEUES + 4 * (place as usize)
-}
-
-// Place `p` of a ring: behind the last place is the first.
-fn around(depth: u32, p: u32) -> u32
-    ensures { λ r. ⌜ r ≡ around depth p ⌝ }
-{
-    if p < depth {
-        return p;
-    }
-    p - depth
 }

@@ -10,7 +10,7 @@ ghost use Prim.Native.Nat.{_+_, _≤_, _<_};
 ghost use lib.ListN.{length};
 ghost use Rattle.state.specs.Layout.{objectRow, objectState};
 ghost use Rattle.state.specs.Ranges.{Ready};
-ghost use Rattle.message.specs.Objects.{Held};
+ghost use Rattle.queue.specs.Queues.{Held};
 ghost use Rattle.calls.specs.Answers.{outcome};
 ghost use Rattle.calls.specs.Calls.{initialiseIn, limited, receiveOf, receiveQueued, receiveIn, statusOf, statusIn, marksIn, clearMarksIn};
 
@@ -39,8 +39,8 @@ fn receive_queued(m: &mut [u8], number: ObjectNumber, depth: u32) -> Answer
     if s.count == 0 {
         return Answer::NoMessage;
     }
-    let v = message::oldest(m, number, depth);
-    message::dequeue(m, number, depth);
+    let v = queue::oldest(m, number, depth);
+    queue::dequeue(m, number, depth);
     limited(s, v)
 }
 

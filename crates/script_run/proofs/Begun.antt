@@ -22,11 +22,11 @@ use Rattle.calls.specs.declared.Answer.the-variants.{Stopped}
 use Rattle.calls.specs.Calls.{stopIn}
 use Rattle.layer.specs.declared.Admission.the-variants.{Admitted, Refused}
 use Rattle.layer.specs.Admission.{workingMemory, admission, startAdmission}
-use Rattle.layer.specs.Start.{prepared, started}
+use Rattle.startup.specs.Start.{prepared, started}
 use Rattle.layer.specs.Step.{start, stop, step}
 use Rattle.layer.proofs.Admitted.{front-of}
 use Rattle.layer.proofs.ReadyKept.{start-ready, WorkingReady, working-ready}
-use Rattle.layer.proofs.StartInRange.{prepared-ready}
+use Rattle.startup.proofs.StartInRange.{prepared-ready}
 use Rattle.script_run.specs.Script.{begun}
 
 module _ (t : List ℕ) (c : Counts) (accepted : check t ≡ Accepted c) where

@@ -1,9 +1,7 @@
-// Working memory: where each number of an I-PDU and of a message object is stored, and whether all are in range.
+// Working memory: where each number of an I-PDU and of a message object is stored, and what is stored there.
 // docs/MEMORY.md is the list of stored numbers.
-mod ranges;
 mod rows;
 
-pub use ranges::in_range;
 pub use rows::ipdu_state;
 pub use rows::object_state;
 pub use rows::set_ipdu_state;

@@ -12,7 +12,8 @@ use Rattle.memory.proofs.Search.{picked}
 use Rattle.table.specs.declared.Counts.{Counts}
 use Rattle.table.specs.Records.{receiving, sending, ipduRecord, objectRecord}
 use Rattle.state.specs.Layout.{objectState, ipduState}
-use Rattle.message.specs.Objects.{object, passesFilter, oldest, dequeue}
+use Rattle.message.specs.Objects.{object, passesFilter}
+use Rattle.queue.specs.Queues.{oldest, dequeue}
 use Rattle.delivery.specs.Delivery.{deliverInside}
 use Rattle.calls.specs.declared.Answer.{Answer}
 use Rattle.calls.specs.declared.Answer.the-variants.{Done, WrongId, WrongLength, Limit, NoMessage, NotRequested}

@@ -29,9 +29,10 @@ use Rattle.state.specs.Layout.{objectState, withObjectState, ipduState, withIpd
 use Rattle.state.specs.Ranges.{Ready}
 use Rattle.state.proofs.RowLaws.{ipdu-part, ipdu-keeps-objects, object-part, object-stored, object-other, object-read}
 use Rattle.state.proofs.Ready.{ready-kept, ObjectKept, kept-fits, object-row, ipdu-row}
-use Rattle.message.specs.Objects.{object, passesFilter, placeAt, enters, marked, delivered, deliver, unpack}
+use Rattle.message.specs.Objects.{object, passesFilter, enters, marked, delivered, deliver, unpack}
+use Rattle.queue.specs.Queues.{placeAt}
 use Rattle.delivery.specs.Delivery.{insideTurn, deliverInside, frameTurn, deliverFrame, markTurn, markObjects}
-use Rattle.message.proofs.RingPlaces.{queue-room}
+use Rattle.queue.proofs.RingPlaces.{queue-room}
 use Rattle.message.proofs.ObjectsInRange.{kept-marked, ready-held, ready-queued}
 use Rattle.delivery.proofs.DeliveriesInRange.{ready-inside, ready-frame, ready-mark}
 use Rattle.transmission.specs.Requests.{ipdu}

@@ -22,7 +22,8 @@ use Rattle.state.specs.Layout.{slotAt, objectState, ipduState, withIpduState}
 use Rattle.state.specs.Updates.{withOld, withValue, withMarks, withQueue}
 use Rattle.state.specs.Ranges.{Ready}
 use Rattle.state.proofs.Ready.{ObjectKept, ready-kept}
-use Rattle.message.specs.Objects.{object, markSent, markSendError, dequeue, initialiseAs, initialise}
+use Rattle.message.specs.Objects.{object, markSent, markSendError, initialiseAs, initialise}
+use Rattle.queue.specs.Queues.{dequeue}
 use Rattle.delivery.specs.Delivery.{deliverFrame}
 use Rattle.message.proofs.ObjectsInRange.{kept-old, kept-marks}
 use Rattle.transmission.specs.Requests.{ipdu, confirmed}

@@ -22,7 +22,7 @@ use Rattle.calls.specs.Answers.{Outcome, numberOf, valueOf}
 use Rattle.calls.specs.Calls.{isObject, sendIn}
 use Rattle.calls.specs.Tick.{tickIn}
 use Rattle.layer.specs.Admission.{workingMemory, startAdmission, ifAdmitted}
-use Rattle.layer.specs.Start.{started}
+use Rattle.startup.specs.Start.{started}
 use Rattle.layer.specs.Step.{Call, start, send, tick, lentBytes, longEnough, describe, step}
 use Rattle.layer.proofs.Admitted.{front-of}
 use Rattle.layer.proofs.ReadyKept.{start-ready}

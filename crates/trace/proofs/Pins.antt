@@ -27,7 +27,7 @@ use Rattle.calls.specs.declared.Answer.the-variants.{Done}
 use Rattle.calls.specs.Answers.{numberOf, valueOf}
 use Rattle.calls.specs.Calls.{wants, request, sendOf, sendIn}
 use Rattle.layer.specs.Admission.{admission, startAdmission}
-use Rattle.layer.specs.Start.{blank, prepared, started}
+use Rattle.startup.specs.Start.{blank, prepared, started}
 use Rattle.layer.specs.Step.{Call, start, stop, send, initialise, receive, status, marks, clearMarks, startPeriodic, stopPeriodic, indication, confirm, tick, toldSend}
 use Rattle.layer.specs.Step.{toldNothing, Told, toldStart, toldStop, toldInitialise, lentBytes, describe, step}
 use Rattle.trace.specs.Book.{Book, unopened, keeps, advance}

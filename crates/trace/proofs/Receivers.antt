@@ -22,8 +22,8 @@ use Rattle.state.specs.Layout.{objectRows, objectRow, objectState, withObjectSt
 use Rattle.state.specs.Ranges.{Ready}
 use Rattle.state.proofs.RowLaws.{object-part, object-other, object-read}
 use Rattle.state.proofs.Ready.{object-row}
-use Rattle.message.specs.Objects.{object, passesFilter, afterFilter, marked, delivered, deliver, oldest, dequeue}
-use Rattle.message.specs.Queues.{waiting}
+use Rattle.message.specs.Objects.{object, passesFilter, afterFilter, marked, delivered, deliver}
+use Rattle.queue.specs.Queues.{oldest, dequeue, waiting}
 use Rattle.message.proofs.ObjectsInRange.{ready-held}
 use Rattle.message.proofs.Queues.{waiting-length, waiting-oldest, waiting-arrived, waiting-same}
 use Rattle.calls.specs.declared.Answer.the-variants.{Done}

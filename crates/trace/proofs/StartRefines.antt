@@ -30,8 +30,8 @@ use Rattle.message.proofs.ObjectsInRange.{right-placed}
 use Rattle.transmission.specs.Requests.{ipdu}
 use Rattle.calls.proofs.Records.{object-sends, object-receives}
 use Rattle.calls.proofs.SlotRows.{pack-row}
-use Rattle.layer.specs.Start.{blank, idle, firstTimer, startIpdu, unused, startAs, startObject, prepared, started}
-use Rattle.layer.proofs.StartInRange.{zero-at, begun, Set, set-more, all-set, initial-fits, queue-low, unused-fits, prepared-ready}
+use Rattle.startup.specs.Start.{blank, idle, firstTimer, startIpdu, unused, startAs, startObject, prepared, started}
+use Rattle.startup.proofs.StartInRange.{zero-at, begun, Set, set-more, all-set, initial-fits, queue-low, unused-fits, prepared-ready}
 use Rattle.trace.specs.Book.{Entry, enter, openEntry, opened, lastOf, bookBit}
 use Rattle.trace.proofs.Refines.{Refines, refines-running, pack-bits}
 

@@ -27,7 +27,7 @@ use Rattle.calls.specs.Answers.{Outcome, numberOf, valueOf}
 use Rattle.layer.specs.declared.Admission.{Admission}
 use Rattle.layer.specs.declared.Admission.the-variants.{Admitted, Refused}
 use Rattle.layer.specs.Admission.{workingMemory, admission, startAdmissionOf, startAdmission, ifAdmitted}
-use Rattle.layer.specs.Start.{started, startIn}
+use Rattle.startup.specs.Start.{started, startIn}
 use Rattle.layer.specs.Step.{Call, start, Lent, noArea, requests, lentBytes, longEnough, Told, toldStart, toldStop, toldSend, toldInitialise, toldNothing, Description}
 use Rattle.layer.specs.Step.{describe, admissionFor, step, memoryAfter}
 use Rattle.layer.proofs.Admitted.{front-of}

@@ -11,7 +11,7 @@ use Rattle.table.specs.Records.{receiving, counts, ipduRecord, objectRecord}
 use Rattle.table.specs.Rules.{orderOf}
 use Rattle.state.specs.Layout.{objectState}
 use Rattle.message.specs.Objects.{object, passesFilter}
-use Rattle.message.specs.Queues.{waiting}
+use Rattle.queue.specs.Queues.{waiting}
 use Rattle.calls.specs.declared.Answer.the-variants.{Done}
 use Rattle.calls.specs.Answers.{Outcome}
 use Rattle.layer.specs.Admission.{workingMemory}

@@ -5,7 +5,7 @@ use mathlib.Core.Path.{sym, _∙_}
 use Rattle.memory.specs.Bytes.{Bytes}
 use Rattle.layer.specs.Admission.{admission}
 use Rattle.layer.proofs.Admitted.{accepted-admits, admits-refused}
-use Rattle.layer.proofs.Fresh.{verdict-right}
+use Rattle.layer.proofs.Started.{verdict-right}
 use Rattle.layer.proofs.checks.admit.Statement.{statement}
 use Rattle.layer.proofs.checks.admit.Tie as tie
 

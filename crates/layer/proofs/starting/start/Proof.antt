@@ -4,7 +4,7 @@ use borrow.Author.Needs.{needs}
 use mathlib.Core.Path.{sym, _∙_}
 use Rattle.layer.specs.Admission.{startAdmission}
 use Rattle.layer.specs.Step.{step}
-use Rattle.layer.proofs.Fresh.{verdict-right, accepted-starts}
+use Rattle.layer.proofs.Started.{verdict-right, accepted-starts}
 use Rattle.layer.proofs.starting.start.Statement.{statement}
 use Rattle.layer.proofs.starting.start.Tie as tie
 

@@ -3,7 +3,7 @@
 use borrow.Author.Needs.{needs}
 use borrow.Author.Tests.{lt-leb}
 use Rattle.layer.proofs.Admitted.{working-length, working-exact}
-use Rattle.layer.proofs.Fresh.{starts-long}
+use Rattle.layer.proofs.Started.{starts-long}
 use Rattle.layer.proofs.starting.start_accepted.Statement.{statement}
 use Rattle.layer.proofs.starting.start_accepted.Tie as tie
 

@@ -2,7 +2,7 @@
 -- Assumes nothing.
 use borrow.Author.Needs.{needs}
 use Rattle.message.specs.Objects.{deliver}
-use Rattle.message.proofs.RingPlaces.{held-row, held-row-after, held-queue, held-head, held-count, newest-room}
+use Rattle.queue.proofs.RingPlaces.{held-row, held-row-after, held-queue, held-head, held-count, newest-room}
 use Rattle.message.proofs.objects.deliver.Statement.{statement}
 use Rattle.message.proofs.objects.deliver.Tie as tie
 

@@ -1,7 +1,7 @@
 -- `message::objects::initialise`: the direction tells whether the value is packed or stored.
 -- Assumes nothing.
 use borrow.Author.Needs.{needs}
-use Rattle.message.proofs.RingPlaces.{initialised}
+use Rattle.message.proofs.ObjectSteps.{initialised}
 use Rattle.message.proofs.objects.initialise.Statement.{statement}
 use Rattle.message.proofs.objects.initialise.Tie as tie
 

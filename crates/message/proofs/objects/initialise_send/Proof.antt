@@ -1,7 +1,7 @@
 -- `message::objects::initialise_send`: the row is written with the old value, then the value is packed.
 -- Assumes nothing.
 use borrow.Author.Needs.{needs}
-use Rattle.message.proofs.RingPlaces.{placed-after}
+use Rattle.message.proofs.ObjectSteps.{placed-after}
 use Rattle.message.proofs.objects.initialise_send.Statement.{statement}
 use Rattle.message.proofs.objects.initialise_send.Tie as tie
 

@@ -4,7 +4,7 @@ use borrow.Author.Needs.{needs}
 use native.Mathlib.Omega.{arith}
 use borrow.Author.Tests.{eq-eqb, ne-eqb}
 use Rattle.message.specs.Objects.{pack}
-use Rattle.message.proofs.RingPlaces.{picked-other}
+use Rattle.message.proofs.ObjectSteps.{picked-other}
 use Rattle.message.proofs.objects.pack.Statement.{statement}
 use Rattle.message.proofs.objects.pack.Tie as tie
 

@@ -1,0 +1,26 @@
+-- What the steps of one message object give: its bits stay placed, and a choice by a test that the code made.
+-- Assumes nothing.
+use mathlib.Core.List.{List}
+use mathlib.Core.Path.{_≡_, sym, ap, _∙_}
+use Prim.Native.Nat.{ℕ}
+use native.Mathlib.Omega.{arith}
+use borrow.Author.Tests.{ne-eqb}
+use lib.Dec.{eqb}
+use lib.ListN.{length}
+use Rattle.memory.specs.Search.{pick}
+use Rattle.config.specs.declared.Direction.{Direction}
+use Rattle.config.specs.declared.Object.{Object}
+use Rattle.message.specs.Objects.{Placed, initialiseAs, initialise}
+
+-- memory of the same length keeps an object placed
+pub placed-after : (o : Object) (m n : List ℕ) → Placed o m → length n ≡ length m → Placed o n
+placed-after o m n placed same = record { long = omega (arith, placed .long, same); slot = placed .slot; ipdu = placed .ipdu }
+
+-- ---- a choice by a test that the code made
+
+pub picked-other : {A : Type 0} (a b : ℕ) (x y z : A) → (a ≡ b → ⊥) → z ≡ y → z ≡ pick (eqb a b) x y
+picked-other a b x y z other same = rw (ne-eqb _ _ other) same
+
+pub initialised : (d : Direction) (o : Object) (i v : ℕ) (m n : List ℕ) → o .direction ≡ d → n ≡ initialiseAs d o i v m → n ≡ initialise o i v m
+unfolding initialise
+initialised d o i v m n e does = does ∙ ap (λ (d : Direction). initialiseAs d o i v m) (sym e)
