@@ -29,5 +29,5 @@ awk '{ wall += $2; cpu += $3 } END { printf "%-14s %7.1f %7.1f\n", "total", wall
 edit memory Rows.antt
 edit memory write64/Proof.antt
 edit layer Admitted.antt
-edit calls sending/send/Proof.antt
+edit object_calls sending/send/Proof.antt
 ! grep 'not proved' "$out/rows" >&2
