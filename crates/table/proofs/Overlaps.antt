@@ -161,9 +161,10 @@ module _ (t : List ℕ) (ipdus end : ℕ) (placed : (i : ℕ) → i < end → is
           let sents = and-split (isSent s) (isSent r) (same .0) in
           let pl : Placed r = placed i h (sents .1) in
           let none : eqb (bitAnd (getD (usedAfter t ipdus i) (r .ipdu) 0) (maskOf r)) 0 ≡ true = rw (sents .1) at free in
-          let clean : anyBelow 64 (λ p. anyBelow i (owner t ipdus (r .ipdu) p) && ownsBit r p) ≡ false =
-          not-true _
-          (sym (words-share (getD (usedAfter t ipdus i) (r .ipdu) 0) (maskOf r) (λ q. anyBelow i (owner t ipdus (r .ipdu) q)) (ownsBit r) (w .small (r .ipdu)) (w .bits (r .ipdu) (pl .ipdu)) (mask-describes r pl)) ∙ none) in
+          let shared =
+          words-share (getD (usedAfter t ipdus i) (r .ipdu) 0) (maskOf r) (λ q. anyBelow i (owner t ipdus (r .ipdu) q)) (ownsBit r) (w .small (r .ipdu))
+          (w .bits (r .ipdu) (pl .ipdu)) (mask-describes r pl) in
+          let clean : anyBelow 64 (λ p. anyBelow i (owner t ipdus (r .ipdu) p) && ownsBit r p) ≡ false = not-true _ (sym shared ∙ none) in
           true-not-false (last .1)
           (any-none 64 (λ p. ownsBit s p && ownsBit r p)
           (λ p low.
