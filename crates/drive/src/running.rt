@@ -3,6 +3,7 @@ use driver::Part;
 use driver::Progress;
 use layer::AREA_SIZE;
 use layer::MEMORY_SIZE;
+use libc::STDOUT_FILENO;
 ghost use Prim.Native.Nat.{_≤_};
 ghost use lib.ListN.{length};
 
@@ -54,7 +55,7 @@ fn run_parts(
         return;
     }
     let n = driver::finish(out, end.progress);
-    files::write_out(out, n);
+    write_out(out, n);
 }
 
 // Reads the script part by part, and runs each. A proved loop has to end, and nothing says that a file does: no run uses up its turns.
@@ -128,6 +129,13 @@ fn run_some(
     ensures { λ r. ⌜ r .read ≤ length (now (part .entry)) ⌝ }
 {
     let done = driver::run_some(t, memory, area, part, out, progress);
-    files::write_out(out, done.written);
+    write_out(out, done.written);
     done
+}
+
+// Writes the first `n` bytes.
+fn write_out(out: &[u8], n: usize)
+    requires { ⌜ n ≤ length (now out) ⌝ }
+{
+    io::write_all(STDOUT_FILENO, &out[..n]);
 }

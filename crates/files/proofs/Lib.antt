@@ -1,1 +1,1 @@
-mod Within
+pub mod Within

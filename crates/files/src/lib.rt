@@ -1,8 +1,4 @@
-// Files for the programs: one read whole into lent bytes, and bytes written to standard output. Of a file that can't be read standard error
-// says so.
-use libc::STDOUT_FILENO;
-ghost use Prim.Native.Nat.{_≤_};
-ghost use lib.ListN.{length};
+// Files for the programs: one read whole into lent bytes. Of a file that can't be read standard error says so.
 ghost use Rattle.io.specs.Counts.{Counts};
 
 // Whether a file could be read, and how many bytes of it.
@@ -54,11 +50,4 @@ fn fill(fd: i32, path: &[u8], bytes: &mut [u8]) -> Filled
         whole: true,
         count: done,
     }
-}
-
-// Writes the first `n` bytes.
-pub fn write_out(out: &[u8], n: usize)
-    requires { ⌜ n ≤ length (now out) ⌝ }
-{
-    io::write_all(STDOUT_FILENO, &out[..n]);
 }

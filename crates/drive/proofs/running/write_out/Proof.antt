@@ -1,9 +1,9 @@
--- `files::write_out`: the bytes written lie inside the buffer.
+-- `drive::running::write_out`: the bytes written lie inside the buffer.
 -- Assumes nothing.
 use borrow.Author.Needs.{needs}
 use Rattle.files.proofs.Within.{within}
-use Rattle.files.proofs.write_out.Statement.{statement}
-use Rattle.files.proofs.write_out.Tie as tie
+use Rattle.drive.proofs.running.write_out.Statement.{statement}
+use Rattle.drive.proofs.running.write_out.Tie as tie
 
 pub write-out-spec : {M : Type 1} → statement M
 write-out-spec =
