@@ -2,7 +2,7 @@
 -- Assumes nothing.
 use mathlib.Core.Bool.{false}
 use mathlib.Core.List.{List, _++_}
-use mathlib.Core.Logic.{_⊎_, inl, inr}
+use mathlib.Core.Logic.{_⊎_, inl, inr, ⊎-elim}
 use mathlib.Core.Path.{_≡_, refl, sym, ap, _∙_}
 use Prim.Native.Nat.{ℕ, _+_, _-_, _*_, _≤_, _<_}
 use native.Mathlib.Omega.{arith}
@@ -12,6 +12,7 @@ use lib.Seq.{take-append-seam}
 use Rattle.memory.specs.Bytes.{Bytes, value, part, numberAt, replaced}
 use Rattle.memory.proofs.Parts.{part-apart, part-replaced, part-length, part-front, replaced-length, replaced-bytes}
 use Rattle.memory.proofs.Search.{picked}
+use Rattle.memory.proofs.Tests.{lt-or-le}
 use Rattle.bits.specs.Bits.{packed}
 use Rattle.bits.proofs.RoundTrip.{packed-bytes}
 use Rattle.config.specs.declared.Object.{Object}
@@ -107,10 +108,11 @@ module _ (size k : ℕ) (m area : List ℕ) (few : size ≤ 8) (low : k < mostIp
   handed-length = replaced-length (8 * k) (part (slotAt k) size m ++ replicate (8 - size) 0) area (omega (arith, eight, low, long))
 
   -- other slots stay
-  pub handed-other : (j n : ℕ) → j < k → n ≤ 8 → part (8 * j) n (copiedToArea size k m area) ≡ part (8 * j) n area
+  pub handed-other : (j n : ℕ) → (j ≡ k → ⊥) → n ≤ 8 → part (8 * j) n (copiedToArea size k m area) ≡ part (8 * j) n area
   unfolding copiedToArea
-  handed-other j n below most =
-      part-apart (8 * k) (part (slotAt k) size m ++ replicate (8 - size) 0) area (8 * j) n (omega (arith, eight, low, long)) (inl (omega (arith, below, most)))
+  handed-other j n other most =
+      part-apart (8 * k) (part (slotAt k) size m ++ replicate (8 - size) 0) area (8 * j) n (omega (arith, eight, low, long))
+      (⊎-elim (λ (b : j < k). inl (omega (arith, b, most))) (λ (b : k ≤ j). inr (omega (arith, b, other, eight))) (lt-or-le j k))
 
 -- what is handed over depends on the slot alone
 pub handed-same : (size k : ℕ) (l m area : List ℕ) → size ≤ 8 → part (slotAt k) 8 l ≡ part (slotAt k) 8 m → copiedToArea size k l area ≡ copiedToArea size k m area

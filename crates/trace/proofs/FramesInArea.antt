@@ -108,7 +108,7 @@ module _ (t : List ℕ) (c : Counts) where
               ⊎-elim
               (λ (y : k ≡ n). rw y (handed-front (ipduRecord t n .length) n m area few low fits room))
               (λ (y : (k < n) × names w k).
-              handed-other (ipduRecord t n .length) n m area few low fits room k (ipduRecord t k .length) (y .0) (ipdu-short t c right k (x .named k (y .1) .0))
+              handed-other (ipduRecord t n .length) n m area few low fits room k (ipduRecord t k .length) (λ e. absurd (omega (arith, y .0, e))) (ipdu-short t c right k (x .named k (y .1) .0))
               ∙ x .slot k (y .1))
               (bit-added n w k under e);
         }
