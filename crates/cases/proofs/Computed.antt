@@ -78,11 +78,11 @@ step-fast t call m =
     (λ (e : eqb (length m) memorySize ≡ false). rw e refl)
     (true-or-false (eqb (length m) memorySize))
 
-abbrev runFast : List ℕ → List Call → List ℕ → List Outcome
+abbrev pub runFast : List ℕ → List Call → List ℕ → List Outcome
 runFast t [] m = []
 runFast t (call ∷ calls) m = stepFast t call m ∷ runFast t calls (stepFast t call m .memory)
 
-run-fast : (t : List ℕ) (calls : List Call) (m : List ℕ) → run t calls m ≡ runFast t calls m
+pub run-fast : (t : List ℕ) (calls : List Call) (m : List ℕ) → run t calls m ≡ runFast t calls m
 run-fast t [] m = refl
 run-fast t (call ∷ calls) m =
     ap (λ (o : Outcome). o ∷ run t calls (o .memory)) (step-fast t call m)
