@@ -3,4 +3,3 @@ pub mod Computed
 pub mod Cases
 pub mod FilterRules
 pub mod CheckRules
-pub mod GroupCases

@@ -3,4 +3,3 @@ pub mod Lines
 pub mod Cases
 pub mod FilterRules
 pub mod CheckRules
-pub mod GroupCases

@@ -32,7 +32,7 @@ short-bit at n m p few room low =
     ∙ ap (λ (f : List ℕ). frameBit f p) (take-append-drop n (part at 8 m))
 
 module _ (t : List ℕ) (c : Counts) (accepted : check t ≡ Accepted c) (bt : Bytes t) where
-  call-kept : (b : Book) (m : List ℕ) (f : Follows t c b m) (call : Call) → Typed call → CallKept t c b call (step t call m)
+  pub call-kept : (b : Book) (m : List ℕ) (f : Follows t c b m) (call : Call) → Typed call → CallKept t c b call (step t call m)
   call-kept b m f call y =
       let x = step-frames t c accepted bt b m f call y in
       let next = step-follows t c accepted bt b m f call y .agrees in

@@ -10,7 +10,9 @@ pub mod TickFrames
 pub mod StartRefines
 pub mod Shows
 pub mod Steps
+pub mod GroupSends
 pub mod KeptLists
+pub mod ActionsKept
 pub mod Noninterference
 pub mod Demand3
 pub mod Pins

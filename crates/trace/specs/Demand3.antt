@@ -1,7 +1,9 @@
--- Demand 3, to the letter of document 01's "Demand 3's book": one claim over every list of calls that begins with an accepted start.
+-- Demand 3, to the letter of document 01's "Demand 3's book": one claim over every list of calls and groups that begins with an accepted
+-- start.
 -- Assumes nothing.
 use mathlib.Core.Bool.{Bool, true, false, _&&_}
 use mathlib.Core.List.{List, [], _∷_}
+use mathlib.Core.Logic.{_⊎_}
 use mathlib.Core.Path.{_≡_}
 use Prim.Native.Nat.{ℕ, _*_, _^_, _<_}
 use lib.Dec.{eqb}
@@ -13,8 +15,10 @@ use Rattle.table.specs.declared.Counts.{Counts}
 use Rattle.table.specs.Records.{receiving, sending, counts, ipduRecord, objectRecord}
 use Rattle.calls.specs.declared.Answer.{Answer}
 use Rattle.calls.specs.Answers.{Outcome, numberOf, valueOf}
-use Rattle.layer.specs.Step.{Call, start, send, tick, Lent, noArea, requests, lentBytes, Told, toldStart, toldStop, toldSend, toldInitialise, toldNothing, describe, step}
+use Rattle.layer.specs.Step.{Call, start, send, tick, Lent, noArea, requests, lentBytes, Told, toldStart, toldStop, toldSend, toldInitialise, toldNothing, describe, step, run}
+use Rattle.group.specs.Groups.{Group, GroupOutcome, groupStep}
 use Rattle.trace.specs.Book.{Book, unopened, keeps, accepts, advance, bookBit}
+use Rattle.trace.specs.Actions.{Action, single, group, leaves, callsOf, acceptsGroup, advanceBy}
 
 -- ---- calls and lists of them
 
@@ -33,6 +37,15 @@ Typed call = Small (describe call .told) × Bytes (describe call .bytes)
 abbrev pub AllTyped : List Call → Type 0
 AllTyped [] = Unit {0}
 AllTyped (call ∷ calls) = Typed call × AllTyped calls
+
+-- of an action: a group is given values of 32 bits; its areas and lists may hold anything
+abbrev pub TypedAction : Action → Type 0
+TypedAction (single call) = Typed call
+TypedAction (group g) = AllTyped (callsOf g)
+
+abbrev pub ActionsTyped : List Action → Type 0
+ActionsTyped [] = Unit {0}
+ActionsTyped (x ∷ xs) = TypedAction x × ActionsTyped xs
 
 abbrev pub done : Outcome → Bool
 done o = eqb (numberOf (o .answer)) 0
@@ -76,6 +89,32 @@ abbrev pub AllKept : List ℕ → Counts → Book → List Call → List ℕ →
 AllKept t c b [] m = Unit {0}
 AllKept t c b (call ∷ calls) m = CallKept t c b call (step t call m) × AllKept t c (advance t c b call) calls (step t call m .memory)
 
+-- no send of these asks for I-PDU k
+abbrev pub Unnamed : ℕ → List Outcome → Type 0
+Unnamed k [] = Unit {0}
+Unnamed k (o ∷ os) = (names (valueOf (o .answer)) k → ⊥) × Unnamed k os
+
+-- the frame is the one of the latest of these sends that asks for I-PDU k
+abbrev pub HandedOver : List ℕ → ℕ → List ℕ → List Outcome → Type 0
+HandedOver t k f [] = ⊥
+HandedOver t k f (o ∷ os) = HandedOver t k f os ⊎ (names (valueOf (o .answer)) k × (f ≡ frame t k (o .area)) × Unnamed k os)
+
+-- a group, with the book before it: refused where the book says so and nowhere else; else each of its sends is kept, one after the
+-- other, and each frame that it hands over is the one of a send
+pub record GroupKept (t : List ℕ) (c : Counts) (b : Book) (g : Group) (m : List ℕ) (o : GroupOutcome) : Type 0 where
+  pub judged : eqb (numberOf (o .answer)) 0 ≡ acceptsGroup b g
+  pub sends : acceptsGroup b g ≡ true → AllKept t c b (callsOf g) m
+  pub frames : (k : ℕ) → names (valueOf (o .answer)) k → HandedOver t k (frame t k (o .area)) (run t (callsOf g) m)
+
+abbrev pub ActionKept : List ℕ → Counts → Book → Action → List ℕ → Type 0
+ActionKept t c b (single call) m = CallKept t c b call (step t call m)
+ActionKept t c b (group g) m = GroupKept t c b g m (groupStep t g m)
+
+-- every action of a list
+abbrev pub ActionsKept : List ℕ → Counts → Book → List Action → List ℕ → Type 0
+ActionsKept t c b [] m = Unit {0}
+ActionsKept t c b (x ∷ xs) m = ActionKept t c b x m × ActionsKept t c (advanceBy t c b x) xs (leaves t x m)
+
 -- ---- (b) two lists, each with its book
 
 -- a receive object names it as its sender
@@ -97,6 +136,23 @@ AllAlike t c b d [] (y ∷ ys) = ⊥
 AllAlike t c b d (x ∷ xs) [] = ⊥
 AllAlike t c b d (x ∷ xs) (y ∷ ys) = Alike t c b d x y × AllAlike t c (advance t c b x) (advance t c d y) xs ys
 
+-- two groups of one shape: as many bytes lent, and both or neither with a last pair that is whole
+pub record SameShape (g h : Group) : Type 0 where
+  pub area : length (g .area) ≡ length (h .area)
+  pub statuses : length (g .statuses) ≡ length (h .statuses)
+  pub whole : g .pairs .whole ≡ h .pairs .whole
+
+-- two actions alike: calls that are, or groups of one shape whose sends are
+pub data AlikeActions (t : List ℕ) (c : Counts) (b d : Book) (x y : Action) : Type 0 where
+  calls : (p q : Call) → x ≡ single p → y ≡ single q → Alike t c b d p q → AlikeActions t c b d x y
+  groups : (g h : Group) → x ≡ group g → y ≡ group h → SameShape g h → AllAlike t c b d (callsOf g) (callsOf h) → AlikeActions t c b d x y
+
+abbrev pub ActionsAlike : List ℕ → Counts → Book → Book → List Action → List Action → Type 0
+ActionsAlike t c b d [] [] = Unit {0}
+ActionsAlike t c b d [] (y ∷ ys) = ⊥
+ActionsAlike t c b d (x ∷ xs) [] = ⊥
+ActionsAlike t c b d (x ∷ xs) (y ∷ ys) = AlikeActions t c b d x y × ActionsAlike t c (advanceBy t c b x) (advanceBy t c d y) xs ys
+
 -- the same number, returned value, word and frames
 pub record SameAnswer (t : List ℕ) (x y : Call) (o p : Outcome) : Type 0 where
   pub number : numberOf (o .answer) ≡ numberOf (p .answer)
@@ -111,10 +167,29 @@ AllSame t (x ∷ xs) [] m n = ⊥
 AllSame t (x ∷ xs) (y ∷ ys) m n =
     SameAnswer t x y (step t x m) (step t y n) × AllSame t xs ys (step t x m .memory) (step t y n .memory)
 
+-- a group: the same number, word, statuses and frames
+pub record SameGroup (t : List ℕ) (o p : GroupOutcome) : Type 0 where
+  pub number : numberOf (o .answer) ≡ numberOf (p .answer)
+  pub word : valueOf (o .answer) ≡ valueOf (p .answer)
+  pub statuses : numberOf (o .answer) ≡ 0 → o .statuses ≡ p .statuses
+  pub frames : (k : ℕ) → names (valueOf (o .answer)) k → frame t k (o .area) ≡ frame t k (p .area)
+
+abbrev pub SameAction : List ℕ → Action → Action → List ℕ → List ℕ → Type 0
+SameAction t (single x) (single y) m n = SameAnswer t x y (step t x m) (step t y n)
+SameAction t (single x) (group h) m n = ⊥
+SameAction t (group g) (single y) m n = ⊥
+SameAction t (group g) (group h) m n = SameGroup t (groupStep t g m) (groupStep t h n)
+
+abbrev pub ActionsSame : List ℕ → List Action → List Action → List ℕ → List ℕ → Type 0
+ActionsSame t [] [] m n = Unit {0}
+ActionsSame t [] (y ∷ ys) m n = ⊥
+ActionsSame t (x ∷ xs) [] m n = ⊥
+ActionsSame t (x ∷ xs) (y ∷ ys) m n = SameAction t x y m n × ActionsSame t xs ys (leaves t x m) (leaves t y n)
+
 -- ---- the claim, whatever lay in memory before
 
 abbrev pub Demand3 : List ℕ → Type 0
 Demand3 t =
-    (xs ys : List Call) → AllTyped xs → AllTyped ys → (m n : List ℕ) → done (step t start m) ≡ true → done (step t start n) ≡ true
-    → AllKept t (counts t) unopened (start ∷ xs) m
-    × (AllAlike t (counts t) unopened unopened (start ∷ xs) (start ∷ ys) → AllSame t (start ∷ xs) (start ∷ ys) m n)
+    (xs ys : List Action) → ActionsTyped xs → ActionsTyped ys → (m n : List ℕ) → done (step t start m) ≡ true → done (step t start n) ≡ true
+    → ActionsKept t (counts t) unopened (single start ∷ xs) m
+    × (ActionsAlike t (counts t) unopened unopened (single start ∷ xs) (single start ∷ ys) → ActionsSame t (single start ∷ xs) (single start ∷ ys) m n)

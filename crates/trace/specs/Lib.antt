@@ -1,4 +1,5 @@
 pub mod Book
+pub mod Actions
 pub mod Demand3
 pub mod Refusals
 pub mod RoundTrip

@@ -6,7 +6,9 @@ use mathlib.Core.Logic.{_⊎_}
 use mathlib.Core.Path.{_≡_}
 use Prim.Native.Nat.{ℕ}
 use Rattle.calls.specs.Answers.{Outcome, numberOf}
-use Rattle.layer.specs.Step.{Call, receive, longEnough, describe, step}
+use Rattle.layer.specs.Step.{Call, receive}
+use Rattle.group.specs.Groups.{Group, GroupOutcome}
+use Rattle.trace.specs.Actions.{Action, answerOf, leaves, areaFits}
 
 -- ---- a refused call leaves all lent bytes
 
@@ -19,12 +21,18 @@ pub record Unchanged (m lent : List ℕ) (o : Outcome) : Type 0 where
 abbrev pub IsRefused : Call → Outcome → Type 0
 IsRefused call o = (numberOf (o .answer) ≡ 0 → ⊥) × (numberOf (o .answer) ≡ 3 → (i : ℕ) → call ≡ receive i → ⊥)
 
+-- the same of a group, whose status list is lent too
+pub record GroupUnchanged (m : List ℕ) (g : Group) (o : GroupOutcome) : Type 0 where
+  pub memory : o .memory ≡ m
+  pub area : o .area ≡ g .area
+  pub statuses : o .statuses ≡ g .statuses
+
 -- ---- 6 for a range is never answered after a start
 
--- no call of the list answers 6, but for a request area that is too short
-abbrev pub Never6 : List ℕ → List Call → List ℕ → Type 0
+-- no action of the list answers 6, but for a request area that is too short
+abbrev pub Never6 : List ℕ → List Action → List ℕ → Type 0
 Never6 t [] m = Unit {0}
-Never6 t (call ∷ calls) m = (longEnough (describe call .lent) ≡ true → numberOf (step t call m .answer) ≡ 6 → ⊥) × Never6 t calls (step t call m .memory)
+Never6 t (x ∷ xs) m = (areaFits x ≡ true → numberOf (answerOf t x m) ≡ 6 → ⊥) × Never6 t xs (leaves t x m)
 
 -- ---- a layer that was never started does not run
 

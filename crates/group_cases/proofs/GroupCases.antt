@@ -14,10 +14,10 @@ use Rattle.layer.specs.Step.{Call, send, run, memoryAfter}
 use Rattle.group.specs.declared.Pair.{Pair}
 use Rattle.group.specs.Pairs.{pairAt}
 use Rattle.group.specs.Groups.{Sent, sent, withSend, sendEach, sendOne, Group, GroupOutcome, refuse, groupBy, ifGroupAdmitted, groupStep}
 use Rattle.cases.specs.Case.{callsOf, expected, answered}
-use Rattle.cases.specs.GroupCases.{GroupCase, gives, memoryBefore, GroupHolds, AllGroupsHold, sentGroups, refusedGroups}
+use Rattle.group_cases.specs.GroupCases.{GroupCase, gives, memoryBefore, GroupHolds, AllGroupsHold, sentGroups, refusedGroups}
 use Rattle.cases.proofs.Definitions.{definitions, _&_}
 use Rattle.cases.proofs.Computed.{stepFast, step-fast, runFast, run-fast}
 
 -- ---- faster steps
 

@@ -1,0 +1,1 @@
+// Proved examples of the group send. No code.

@@ -1,0 +1,85 @@
+-- Demand 3 (a) over lists with groups: a group follows the book as its sends do, and each action of a list is kept. Its list of single
+-- calls leaves the same memory and book.
+-- Assumes: the table holds bytes, and arguments are of the types that the calls take (`TypedAction`).
+use mathlib.Core.Bool.{Bool, true, false}
+use mathlib.Core.List.{List, [], _∷_, _++_}
+use mathlib.Core.Logic.{inl, inr, ⊎-elim}
+use mathlib.Core.Path.{_≡_, refl, ap, _∙_}
+use Prim.Native.Nat.{ℕ, _<_}
+use borrow.Author.Tests.{ne-eqb}
+use lib.Dec.{eqb}
+use lib.ListN.{length}
+use Rattle.memory.specs.Bytes.{Bytes}
+use Rattle.memory.specs.Search.{pick}
+use Rattle.table.specs.declared.Counts.{Counts}
+use Rattle.table.specs.declared.Verdict.the-variants.{Accepted}
+use Rattle.table.specs.Check.{check}
+use Rattle.calls.specs.Answers.{numberOf, valueOf}
+use Rattle.layer.specs.Step.{Call, step, run, memoryAfter}
+use Rattle.group.specs.Groups.{sent, Group, groupStep}
+use Rattle.trace.specs.Book.{Book, advance, bookAfter}
+use Rattle.trace.specs.Actions.{Action, single, group, leaves, callsOf, acceptsGroup, advanceBy, expanded}
+use Rattle.trace.specs.Demand3.{AllTyped, TypedAction, ActionsTyped, frame, names, HandedOver, GroupKept, ActionKept, ActionsKept}
+use Rattle.trace.proofs.FramesInArea.{in-area-none}
+use Rattle.trace.proofs.Steps.{Follows, step-follows, list-follows}
+use Rattle.trace.proofs.KeptLists.{call-kept, list-kept}
+use Rattle.trace.proofs.GroupSends.{Ran, sends-ran, GroupDoes, sends, refuses, group-does}
+
+module _ (t : List ℕ) (c : Counts) (accepted : check t ≡ Accepted c) (bt : Bytes t) where
+  module _ (b : Book) (m : List ℕ) (f : Follows t c b m) where
+    -- ---- a group
+
+    module _ (g : Group) (y : AllTyped (callsOf g)) where
+      -- its memory is that of its sends
+      group-memory : groupStep t g m .memory ≡ memoryAfter t (pick (acceptsGroup b g) (callsOf g) []) m
+      group-memory = by (group-does t c accepted bt b g m f)
+        where
+          by : GroupDoes t c accepted bt b g m → groupStep t g m .memory ≡ memoryAfter t (pick (acceptsGroup b g) (callsOf g) []) m
+          by (sends done fits does) = rw (does, done) (sends-ran t c accepted bt (g .pairs .list) (g .area) y fits b (sent 0 m (g .area) []) f refl .memory)
+          by (refuses a is off does some six none) = rw (does, off)
+
+      group-follows : Follows t c (advanceBy t c b (group g)) (groupStep t g m .memory)
+      group-follows = rw group-memory (by (acceptsGroup b g))
+        where
+          by : (went : Bool) → Follows t c (pick went (bookAfter t c b (callsOf g)) b) (memoryAfter t (pick went (callsOf g) []) m)
+          by true = list-follows t c accepted bt (callsOf g) y b m f
+          by false = f
+
+      group-kept : GroupKept t c b g m (groupStep t g m)
+      group-kept = by (group-does t c accepted bt b g m f)
+        where
+          by : GroupDoes t c accepted bt b g m → GroupKept t c b g m (groupStep t g m)
+          by (sends done fits does) =
+              let x = sends-ran t c accepted bt (g .pairs .list) (g .area) y fits b (sent 0 m (g .area) []) f refl in
+              rw does
+              (record {
+                judged = rw done;
+                sends = λ e. list-kept t c accepted bt (callsOf g) y b m f;
+                frames = λ k e. ⊎-elim (λ z. absurd (in-area-none k (z .1 e))) (λ z. z) (x .slots k);
+              })
+          by (refuses a is off does some six none) =
+              rw does
+              (record {
+                judged = rw off (ne-eqb (numberOf a) 0 some);
+                sends = λ e. list-kept t c accepted bt (callsOf g) y b m f;
+                frames = λ k e. absurd (in-area-none k (rw none at e));
+              })
+
+    -- ---- an action
+
+    pub action-follows : (x : Action) → TypedAction x → Follows t c (advanceBy t c b x) (leaves t x m)
+    action-follows (single call) y = step-follows t c accepted bt b m f call y
+    action-follows (group g) y = group-follows g y
+
+    action-kept : (x : Action) → TypedAction x → ActionKept t c b x m
+    action-kept (single call) y = call-kept t c accepted bt b m f call y
+    action-kept (group g) y = group-kept g y
+
+  -- ---- a list of actions
+
+  pub actions-kept : (xs : List Action) → ActionsTyped xs → (b : Book) (m : List ℕ) → Follows t c b m → ActionsKept t c b xs m
+  actions-kept [] y b m f = tt
+  actions-kept (x ∷ xs) y b m f = (
+    action-kept b m f x (y .0),
+    actions-kept xs (y .1) (advanceBy t c b x) (leaves t x m) (action-follows b m f x (y .0)),
+  )
