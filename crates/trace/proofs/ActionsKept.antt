@@ -4,13 +4,14 @@
 use mathlib.Core.Bool.{Bool, true, false}
 use mathlib.Core.List.{List, [], _∷_, _++_}
 use mathlib.Core.Logic.{inl, inr, ⊎-elim}
-use mathlib.Core.Path.{_≡_, refl, ap, _∙_}
+use mathlib.Core.Path.{_≡_, refl, sym, ap, _∙_}
 use Prim.Native.Nat.{ℕ, _<_}
 use borrow.Author.Tests.{ne-eqb}
 use lib.Dec.{eqb}
 use lib.ListN.{length}
 use Rattle.memory.specs.Bytes.{Bytes}
 use Rattle.memory.specs.Search.{pick}
+use Rattle.memory.proofs.Search.{picked}
 use Rattle.table.specs.declared.Counts.{Counts}
 use Rattle.table.specs.declared.Verdict.the-variants.{Accepted}
 use Rattle.table.specs.Check.{check}
@@ -18,7 +19,7 @@ use Rattle.calls.specs.Answers.{numberOf, valueOf}
 use Rattle.layer.specs.Step.{Call, step, run, memoryAfter}
 use Rattle.group.specs.Groups.{sent, Group, groupStep}
 use Rattle.trace.specs.Book.{Book, advance, bookAfter}
-use Rattle.trace.specs.Actions.{Action, single, group, leaves, callsOf, acceptsGroup, advanceBy, expanded}
+use Rattle.trace.specs.Actions.{Action, single, group, leaves, callsOf, acceptsGroup, advanceBy, expanded, memoryAfterAll, bookAfterAll}
 use Rattle.trace.specs.Demand3.{AllTyped, TypedAction, ActionsTyped, frame, names, HandedOver, GroupKept, ActionKept, ActionsKept}
 use Rattle.trace.proofs.FramesInArea.{in-area-none}
 use Rattle.trace.proofs.Steps.{Follows, step-follows, list-follows}
@@ -31,7 +32,7 @@ module _ (t : List ℕ) (c : Counts) (accepted : check t ≡ Accepted c) (bt : B
 
     module _ (g : Group) (y : AllTyped (callsOf g)) where
       -- its memory is that of its sends
-      group-memory : groupStep t g m .memory ≡ memoryAfter t (pick (acceptsGroup b g) (callsOf g) []) m
+      pub group-memory : groupStep t g m .memory ≡ memoryAfter t (pick (acceptsGroup b g) (callsOf g) []) m
       group-memory = by (group-does t c accepted bt b g m f)
         where
           by : GroupDoes t c accepted bt b g m → groupStep t g m .memory ≡ memoryAfter t (pick (acceptsGroup b g) (callsOf g) []) m
@@ -83,3 +84,47 @@ module _ (t : List ℕ) (c : Counts) (accepted : check t ≡ Accepted c) (bt : B
     action-kept b m f x (y .0),
     actions-kept xs (y .1) (advanceBy t c b x) (leaves t x m) (action-follows b m f x (y .0)),
   )
+
+-- ---- the single calls that it stands for
+
+both-typed : (xs ys : List Call) → AllTyped xs → AllTyped ys → AllTyped (xs ++ ys)
+both-typed [] ys y z = z
+both-typed (x ∷ xs) ys y z = (y .0, both-typed xs ys (y .1) z)
+
+memory-then : (t : List ℕ) (xs ys : List Call) (m : List ℕ) → memoryAfter t (xs ++ ys) m ≡ memoryAfter t ys (memoryAfter t xs m)
+memory-then t [] ys m = refl
+memory-then t (x ∷ xs) ys m = memory-then t xs ys (step t x m .memory)
+
+book-then : (t : List ℕ) (c : Counts) (xs ys : List Call) (b : Book) → bookAfter t c b (xs ++ ys) ≡ bookAfter t c (bookAfter t c b xs) ys
+book-then t c [] ys b = refl
+book-then t c (x ∷ xs) ys b = book-then t c xs ys (advance t c b x)
+
+module _ (t : List ℕ) (c : Counts) where
+  pub expanded-typed : (xs : List Action) (b : Book) → ActionsTyped xs → AllTyped (expanded t c b xs)
+  expanded-typed [] b y = tt
+  expanded-typed (single call ∷ xs) b y = (y .0, expanded-typed xs (advance t c b call) (y .1))
+  expanded-typed (group g ∷ xs) b y =
+      both-typed (pick (acceptsGroup b g) (callsOf g) []) (expanded t c (advanceBy t c b (group g)) xs)
+      (picked AllTyped (acceptsGroup b g) (callsOf g) [] (λ e. y .0) (λ e. tt)) (expanded-typed xs (advanceBy t c b (group g)) (y .1))
+
+  pub expanded-book : (xs : List Action) (b : Book) → bookAfterAll t c b xs ≡ bookAfter t c b (expanded t c b xs)
+  expanded-book [] b = refl
+  expanded-book (single call ∷ xs) b = expanded-book xs (advance t c b call)
+  expanded-book (group g ∷ xs) b =
+      expanded-book xs (advanceBy t c b (group g))
+      ∙ ap (λ (d : Book). bookAfter t c d (expanded t c (advanceBy t c b (group g)) xs)) (by (acceptsGroup b g))
+      ∙ sym (book-then t c (pick (acceptsGroup b g) (callsOf g) []) (expanded t c (advanceBy t c b (group g)) xs) b)
+    where
+      by : (went : Bool) → pick went (bookAfter t c b (callsOf g)) b ≡ bookAfter t c b (pick went (callsOf g) [])
+      by true = refl
+      by false = refl
+
+  module _ (accepted : check t ≡ Accepted c) (bt : Bytes t) where
+    pub expanded-memory : (xs : List Action) → ActionsTyped xs → (b : Book) (m : List ℕ) → Follows t c b m → memoryAfterAll t xs m ≡ memoryAfter t (expanded t c b xs) m
+    expanded-memory [] y b m f = refl
+    expanded-memory (single call ∷ xs) y b m f =
+        expanded-memory xs (y .1) (advance t c b call) (step t call m .memory) (action-follows t c accepted bt b m f (single call) (y .0))
+    expanded-memory (group g ∷ xs) y b m f =
+        expanded-memory xs (y .1) (advanceBy t c b (group g)) (groupStep t g m .memory) (action-follows t c accepted bt b m f (group g) (y .0))
+        ∙ ap (memoryAfter t (expanded t c (advanceBy t c b (group g)) xs)) (group-memory t c accepted bt b m f g (y .0))
+        ∙ sym (memory-then t (pick (acceptsGroup b g) (callsOf g) []) (expanded t c (advanceBy t c b (group g)) xs) m)

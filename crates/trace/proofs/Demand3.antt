@@ -1,5 +1,5 @@
 -- Demand 3: the claim holds of every table.
--- Assumes: the table holds bytes, and arguments are of the types that the calls take (`Typed`).
+-- Assumes: the table holds bytes, and arguments are of the types that the calls take (`TypedAction`).
 use mathlib.Core.Bool.{true}
 use mathlib.Core.List.{List}
 use mathlib.Core.Path.{_≡_, refl, ap}
@@ -12,8 +12,9 @@ use Rattle.trace.specs.Book.{unopened, opened, advance}
 use Rattle.trace.specs.Demand3.{done, CallKept, Demand3}
 use Rattle.trace.proofs.FramesInArea.{in-area-none}
 use Rattle.trace.proofs.Steps.{start-accepted, start-follows}
-use Rattle.trace.proofs.KeptLists.{list-kept}
-use Rattle.trace.proofs.Noninterference.{start-same, lists-same}
+use Rattle.trace.proofs.ActionsKept.{actions-kept}
+use Rattle.trace.proofs.Noninterference.{start-same}
+use Rattle.trace.proofs.ActionsSame.{actions-same}
 
 -- the accepted start that a list begins with
 first-kept : (t m : List ℕ) → done (step t start m) ≡ true → CallKept t (counts t) unopened start (step t start m)
@@ -27,7 +28,7 @@ demand-3 t bt xs ys p q m n em en =
     let f = start-follows t (counts t) (a .table) bt m (a .long) in
     let g = start-follows t (counts t) (a .table) bt n (z .long) in
     let w = start-same t (counts t) (a .table) bt m n (a .long) (z .long) in (
-      (first-kept t m em, list-kept t (counts t) (a .table) bt xs p (opened t (counts t)) (step t start m .memory) f),
+      (first-kept t m em, actions-kept t (counts t) (a .table) bt xs p (opened t (counts t)) (step t start m .memory) f),
       λ alike. (
         record {
           number = ap numberOf (w .answer);
@@ -35,6 +36,6 @@ demand-3 t bt xs ys p q m n em en =
           word = refl;
           frames = λ k e. absurd (in-area-none k e);
         },
-        lists-same t (counts t) (a .table) bt xs ys p q (opened t (counts t)) (step t start m .memory) (step t start n .memory) f g (w .memory) (alike .1),
+        actions-same t (counts t) (a .table) bt xs ys p q (opened t (counts t)) (step t start m .memory) (step t start n .memory) f g (w .memory) (alike .1),
       ),
     )

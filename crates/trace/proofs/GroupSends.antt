@@ -228,3 +228,11 @@ module _ (t : List ℕ) (c : Counts) (accepted : check t ≡ Accepted c) (bt : B
       cases true false false el es ew =
           refuses WrongLength (rw (el, es)) (rw (el, es, ew)) (rw (admitted, el, es, ew)) (λ e. omega (arith, e)) (λ e six. omega (arith, six)) refl
       cases true false true el es ew = sends (rw (el, es, ew)) (leb-true areaSize (length (g .area)) el) (rw (admitted, el, es, ew))
+
+  -- with a long enough area it answers no 6
+  pub group-not-6 : (b : Book) (g : Group) (m : List ℕ) → Follows t c b m → leb areaSize (length (g .area)) ≡ true → numberOf (groupStep t g m .answer) ≡ 6 → ⊥
+  group-not-6 b g m f long = by (group-does b g m f)
+    where
+      by : GroupDoes b g m → numberOf (groupStep t g m .answer) ≡ 6 → ⊥
+      by (sends done fits does) = rw does (λ e. omega (arith, e))
+      by (refuses a is off does some six none) = rw does (six long)

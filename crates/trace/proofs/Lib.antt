@@ -14,6 +14,7 @@ pub mod GroupSends
 pub mod KeptLists
 pub mod ActionsKept
 pub mod Noninterference
+pub mod ActionsSame
 pub mod Demand3
 pub mod Pins
 pub mod Entries

@@ -23,10 +23,10 @@ use Rattle.calls.specs.Calls.{isObject, sendIn}
 use Rattle.calls.specs.Tick.{tickIn}
 use Rattle.layer.specs.Admission.{workingMemory, startAdmission, ifAdmitted}
 use Rattle.startup.specs.Start.{started}
-use Rattle.layer.specs.Step.{Call, start, send, tick, lentBytes, longEnough, describe, step}
+use Rattle.layer.specs.Step.{Call, start, send, tick, lentBytes, longEnough, describe, step, memoryAfter}
 use Rattle.layer.proofs.Admitted.{front-of}
 use Rattle.layer.proofs.ReadyKept.{start-ready}
-use Rattle.trace.specs.Book.{Book, keeps, advance}
+use Rattle.trace.specs.Book.{Book, keeps, advance, bookAfter}
 use Rattle.trace.specs.Demand3.{Typed, AllTyped, wordOf, inside, Alike, same, areas, ticks, dropped, AllAlike, SameAnswer, AllSame}
 use Rattle.trace.proofs.SendFrames.{send-area, send-dropped}
 use Rattle.trace.proofs.TickFrames.{tick-area}
@@ -150,12 +150,12 @@ module _ (t : List ℕ) (c : Counts) (accepted : check t ≡ Accepted c) (bt : B
 
     -- ---- calls alike
 
-    record Step (x y : Call) : Type 0 where
-      outcome : SameOutcome (step t x m) (step t y n)
-      word : wordOf x (step t x m .answer) ≡ wordOf y (step t y n .answer)
-      book : advance t c b x ≡ advance t c b y
+    pub record Step (x y : Call) : Type 0 where
+      pub outcome : SameOutcome (step t x m) (step t y n)
+      pub word : wordOf x (step t x m .answer) ≡ wordOf y (step t y n .answer)
+      pub book : advance t c b x ≡ advance t c b y
 
-    alike-step : (x y : Call) → Typed x → Typed y → Alike t c b b x y → Step x y
+    pub alike-step : (x y : Call) → Typed x → Typed y → Alike t c b b x y → Step x y
     alike-step x y p q (same e) =
         let w = equal-same x p in
         subst (Step x) e (record { outcome = w; word = ap (wordOf x) (w .answer); book = refl })
@@ -175,7 +175,7 @@ module _ (t : List ℕ) (c : Counts) (accepted : check t ≡ Accepted c) (bt : B
         let z = dropped-same i v w small little area other dropv dropw none e in
         rw (ex, ey) (record { outcome = z; word = ap valueOf (z .answer); book = dropped-book i v w small little area other dropv dropw none e })
 
-    same-answer : (x y : Call) → Typed x → Typed y → Step x y → SameAnswer t x y (step t x m) (step t y n)
+    pub same-answer : (x y : Call) → Typed x → Typed y → Step x y → SameAnswer t x y (step t x m) (step t y n)
     same-answer x y p q s =
         let hx = step-frames t c accepted bt b m f x p in
         let hy = step-frames t c accepted bt b n g y q in
@@ -203,3 +203,23 @@ module _ (t : List ℕ) (c : Counts) (accepted : check t ≡ Accepted c) (bt : B
             (s .outcome .memory)
             (subst (λ (d : Book). AllAlike t c (advance t c b x) d xs ys) (sym (s .book)) (a .1)),
       )
+
+  -- what they leave
+  pub record SameEnd (b : Book) (xs ys : List Call) (m n : List ℕ) : Type 0 where
+    pub book : bookAfter t c b xs ≡ bookAfter t c b ys
+    pub memory : workingMemory (memoryAfter t xs m) ≡ workingMemory (memoryAfter t ys n)
+
+  pub lists-end : (xs ys : List Call) → AllTyped xs → AllTyped ys → (b : Book) (m n : List ℕ) → Follows t c b m → Follows t c b n → workingMemory m ≡ workingMemory n
+      → AllAlike t c b b xs ys → SameEnd b xs ys m n
+  lists-end [] [] p q b m n f g e a = record { book = refl; memory = e }
+  lists-end [] (y ∷ ys) p q b m n f g e a = absurd a
+  lists-end (x ∷ xs) [] p q b m n f g e a = absurd a
+  lists-end (x ∷ xs) (y ∷ ys) p q b m n f g e a =
+      let s = alike-step b m n f g e x y (p .0) (q .0) (a .0) in
+      let rest =
+      lists-end xs ys (p .1) (q .1) (advance t c b x) (step t x m .memory) (step t y n .memory)
+      (step-follows t c accepted bt b m f x (p .0))
+      (subst (λ (d : Book). Follows t c d (step t y n .memory)) (sym (s .book)) (step-follows t c accepted bt b n g y (q .0)))
+      (s .outcome .memory)
+      (subst (λ (d : Book). AllAlike t c (advance t c b x) d xs ys) (sym (s .book)) (a .1)) in
+      record { book = rest .book ∙ ap (λ (d : Book). bookAfter t c d ys) (s .book); memory = rest .memory }

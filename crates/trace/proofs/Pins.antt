@@ -30,10 +30,14 @@ use Rattle.layer.specs.Admission.{admission, startAdmission}
 use Rattle.startup.specs.Start.{blank, prepared, started}
 use Rattle.layer.specs.Step.{Call, start, stop, send, initialise, receive, status, marks, clearMarks, startPeriodic, stopPeriodic, indication, confirm, tick, toldSend}
 use Rattle.layer.specs.Step.{toldNothing, Told, toldStart, toldStop, toldInitialise, lentBytes, describe, step}
+use Rattle.group.specs.Pairs as given
+use Rattle.group.specs.Pairs.{inRecords}
+use Rattle.group.specs.Groups.{groupOf}
 use Rattle.trace.specs.Book.{Book, unopened, keeps, advance}
 use Rattle.cases.specs.Case.{pair, sendIpdu, receiveIpdu, sendObject, receiveObject}
 use Rattle.trace.specs.Demand3 as claim
-use Rattle.trace.specs.Demand3.{AllTyped, Alike, same, areas, ticks, dropped, AllAlike, done}
+use Rattle.trace.specs.Actions.{Action, single, group}
+use Rattle.trace.specs.Demand3.{ActionsTyped, Alike, same, areas, ticks, dropped, AllAlike, alikeCalls, ActionsAlike, done}
 use Rattle.trace.specs.Refusals.{IsRefused}
 use Rattle.trace.proofs.Refusals.{refused-leaves, never-6}
 use Rattle.trace.specs.RoundTrip.{readingIn, Runs, memoryOf, Takes}
@@ -53,28 +57,29 @@ tested (b ∷ bs) e (suc i) = tested bs (and-split (ltb b 256) (allBytes bs) e .
 
 -- ---- premises that hold
 
--- a list of all calls, with the largest value and an area that holds no bytes at all
-abbrev all : List Call
+-- a list of all calls and a group, with the largest value, an area and a status list that hold no bytes at all
+abbrev all : List Action
 all =
-    start
-    ∷ stop
-    ∷ send 0 4294967295 (999 ∷ [])
-    ∷ initialise 0 4294967295
-    ∷ receive 0
-    ∷ status 0
-    ∷ marks 0
-    ∷ clearMarks 0
-    ∷ startPeriodic
-    ∷ stopPeriodic
-    ∷ indication 0 true (0 ∷ 255 ∷ [])
-    ∷ confirm 0 true
-    ∷ tick (999 ∷ [])
+    single start
+    ∷ single stop
+    ∷ single (send 0 4294967295 (999 ∷ []))
+    ∷ single (initialise 0 4294967295)
+    ∷ single (receive 0)
+    ∷ single (status 0)
+    ∷ single (marks 0)
+    ∷ single (clearMarks 0)
+    ∷ single startPeriodic
+    ∷ single stopPeriodic
+    ∷ single (indication 0 true (0 ∷ 255 ∷ []))
+    ∷ single (confirm 0 true)
+    ∷ single (tick (999 ∷ []))
+    ∷ group (groupOf (inRecords (given.pair 0 4294967295 ∷ [])) (999 ∷ []) (999 ∷ []))
     ∷ []
 
 none : Bytes []
 none i = omega arith
 
-pub all-typed : AllTyped all
+pub all-typed : ActionsTyped all
 all-typed = (
   (tt, none),
   (
@@ -83,7 +88,7 @@ all-typed = (
       (omega arith, none),
       (
         (omega arith, none),
-        ((tt, none), ((tt, none), ((tt, none), ((tt, none), ((tt, none), ((tt, none), ((tt, tested (0 ∷ 255 ∷ []) refl), ((tt, none), ((tt, none), tt))))))))),
+        ((tt, none), ((tt, none), ((tt, none), ((tt, none), ((tt, none), ((tt, none), ((tt, tested (0 ∷ 255 ∷ []) refl), ((tt, none), ((tt, none), (((omega arith, none), tt), tt)))))))))),
       ),
     ),
   ),
@@ -110,19 +115,30 @@ xs = send 0 2748 here ∷ confirm 0 true ∷ send 0 3 here ∷ tick here ∷ []
 abbrev ys : List Call
 ys = send 0 2748 there ∷ confirm 0 true ∷ send 0 4 there ∷ tick there ∷ []
 
-typed-xs : AllTyped xs
+-- as actions
+abbrev singles : List Call → List Action
+singles [] = []
+singles (call ∷ calls) = single call ∷ singles calls
+
+typed-xs : ActionsTyped (singles xs)
 typed-xs = ((omega arith, none), ((tt, none), ((omega arith, none), ((tt, none), tt))))
 
-typed-ys : AllTyped ys
+typed-ys : ActionsTyped (singles ys)
 typed-ys = ((omega arith, none), ((tt, none), ((omega arith, none), ((tt, none), tt))))
 
-pub alike : AllAlike table (counts table) unopened unopened (start ∷ xs) (start ∷ ys)
+pub alike : ActionsAlike table (counts table) unopened unopened (singles (start ∷ xs)) (singles (start ∷ ys))
 unfolding value bytesOf part numberAt passes filterOf counts objectRecord advance
 alike = (
-  same refl,
+  alikeCalls start start refl refl (same refl),
   (
-    areas 0 2748 here there refl refl refl,
-    (same refl, (dropped 0 3 4 here there refl refl refl refl refl refl, (ticks here there refl refl refl, tt))),
+    alikeCalls (send 0 2748 here) (send 0 2748 there) refl refl (areas 0 2748 here there refl refl refl),
+    (
+      alikeCalls (confirm 0 true) (confirm 0 true) refl refl (same refl),
+      (
+        alikeCalls (send 0 3 here) (send 0 4 there) refl refl (dropped 0 3 4 here there refl refl refl refl refl refl),
+        (alikeCalls (tick here) (tick there) refl refl (ticks here there refl refl refl), tt),
+      ),
+    ),
   ),
 )
 
@@ -189,8 +205,9 @@ unfolding bit
 requested = rw first-word
 
 -- the claim of these two lists
-both : claim.AllKept table (counts table) unopened (start ∷ xs) m × (AllAlike table (counts table) unopened unopened (start ∷ xs) (start ∷ ys) → claim.AllSame table (start ∷ xs) (start ∷ ys) m n)
-both = demand-3 table bytes xs ys typed-xs typed-ys m n started-m started-n
+both : claim.ActionsKept table (counts table) unopened (singles (start ∷ xs)) m
+    × (ActionsAlike table (counts table) unopened unopened (singles (start ∷ xs)) (singles (start ∷ ys)) → claim.ActionsSame table (singles (start ∷ xs)) (singles (start ∷ ys)) m n)
+both = demand-3 table bytes (singles xs) (singles ys) typed-xs typed-ys m n started-m started-n
 
 -- bit 24 of the first frame is 1 (case 1: 00 80 57 01)
 pub first-frame : frameBit (claim.frame table 0 (step table (send 0 2748 here) (after (start ∷ []) m) .area)) 24 ≡ 1
@@ -219,7 +236,7 @@ stopped = after (start ∷ stop ∷ []) m
 pub stopped-send : done (step table (send 0 1 here) stopped) ≡ false
 unfolding value bytesOf part numberAt counts objectRecord advance
 stopped-send =
-    demand-3 table bytes (stop ∷ send 0 1 here ∷ []) [] ((tt, none), ((omega arith, none), tt)) tt m m started-m started-m .0 .1 .1 .0 .judged
+    demand-3 table bytes (singles (stop ∷ send 0 1 here ∷ [])) [] ((tt, none), ((omega arith, none), tt)) tt m m started-m started-m .0 .1 .1 .0 .judged
 
 refused-send : IsRefused (send 0 1 here) (step table (send 0 1 here) stopped)
 refused-send = (
@@ -255,7 +272,7 @@ status-leaves t m i three = refused-leaves t (status i) m ((λ zero. omega (arit
 
 -- no 6 with a long enough area
 pub second-not-6 : numberOf (step table (send 0 1 here) (after (start ∷ tick here ∷ []) m) .answer) ≡ 6 → ⊥
-second-not-6 = never-6 table bytes (tick here ∷ send 0 1 here ∷ []) ((tt, none), ((omega arith, none), tt)) m started-m .1 .0 refl
+second-not-6 = never-6 table bytes (singles (tick here ∷ send 0 1 here ∷ [])) ((tt, none), ((omega arith, none), tt)) m started-m .1 .0 refl
 
 -- memory of zeros is a stopped layer of this table
 pub zeros-stopped : numberOf (step table (marks 0) (replicate memorySize 0) .answer) ≡ 7
@@ -269,7 +286,7 @@ zeros-stopped = refl
 -- the first frame, read back
 pub first-reading : readingIn (objectRecord table (counts table .ipdus) 0) (claim.frame table 0 (step table (send 0 2748 here) (after (start ∷ []) m) .area)) ≡ 2748
 unfolding value bytesOf part numberAt passes filterOf counts objectRecord advance
-first-reading = frames-read table bytes xs typed-xs m started-m .1 .0 0 0 requested refl refl
+first-reading = frames-read table bytes (singles xs) typed-xs m started-m .1 .0 0 0 requested refl refl
 
 -- another board, with a like receive object
 abbrev other : List ℕ

@@ -1,6 +1,6 @@
--- Demand 1 over calls and lists of calls: a refused call leaves all lent bytes; after an accepted start no call meets a number out of its
--- range; memory that was never started does not run.
--- Assumes nothing; `never-6` that the table holds bytes and that arguments are of the types that the calls take (`Typed`).
+-- Demand 1 over calls, groups and lists of them: a refused one leaves all lent bytes; after an accepted start none meets a number out of
+-- its range; memory that was never started does not run.
+-- Assumes nothing; `never-6` that the table holds bytes and that arguments are of the types that the calls take (`TypedAction`).
 use mathlib.Core.Bool.{Bool, true, false, _&&_}
 use mathlib.Core.List.{List, [], _∷_, _++_}
 use mathlib.Core.Logic.{_⊎_, inl, inr, ⊎-elim}
@@ -9,22 +9,28 @@ use Prim.Native.Nat.{ℕ, zero, suc}
 use lib.Dec.{leb}
 use lib.ListN.{length, drop, replicate, take-append-drop}
 use Rattle.memory.specs.Bytes.{Bytes, value, part, numberAt}
+use Rattle.memory.proofs.Search.{picked}
 use Rattle.memory.proofs.Tests.{true-or-false}
 use Rattle.table.specs.declared.Verdict.{Verdict}
 use Rattle.table.specs.declared.Verdict.the-variants.{Accepted, WrongHeader, WrongIpdu, WrongObject}
 use Rattle.table.specs.Check.{check}
 use Rattle.table.specs.Records.{counts}
-use Rattle.state.specs.Layout.{memorySize, runningAt}
+use Rattle.state.specs.Layout.{memorySize, areaSize, runningAt}
 use Rattle.state.specs.Ranges.{inRange}
+use Rattle.calls.specs.Answers.{numberOf}
 use Rattle.layer.specs.declared.Admission.{Admission}
 use Rattle.layer.specs.declared.Admission.the-variants.{Admitted, Refused}
 use Rattle.layer.specs.Admission.{workingMemory, admissionOf, admission, ifAdmitted}
 use Rattle.layer.specs.Step.{Call, start, lentBytes, longEnough, describe, admissionFor, step}
-use Rattle.trace.specs.Book.{Book, opened, advance}
-use Rattle.trace.specs.Demand3.{AllTyped, done}
-use Rattle.trace.specs.Refusals.{Unchanged, IsRefused, Never6, NotAdmitted}
+use Rattle.group.specs.Groups.{Group, GroupOutcome, wellFormed, ifGroupAdmitted, groupStep}
+use Rattle.trace.specs.Book.{Book, opened}
+use Rattle.trace.specs.Actions.{Action, single, group, answerOf, leaves, areaFits, advanceBy}
+use Rattle.trace.specs.Demand3.{ActionsTyped, done}
+use Rattle.trace.specs.Refusals.{Unchanged, IsRefused, GroupUnchanged, Never6, NotAdmitted}
 use Rattle.trace.proofs.Shows.{shows}
-use Rattle.trace.proofs.Steps.{start-accepted, Follows, start-follows, step-not-6, step-follows}
+use Rattle.trace.proofs.Steps.{start-accepted, Follows, start-follows, step-not-6}
+use Rattle.trace.proofs.GroupSends.{group-not-6}
+use Rattle.trace.proofs.ActionsKept.{action-follows}
 
 -- ---- a refused call
 
@@ -39,20 +45,36 @@ refused-leaves t call m r = by (admissionFor (describe call) t m) r
         record { memory = ap (λ (n : List ℕ). n ++ drop memorySize m) (u .memory) ∙ take-append-drop memorySize m; area = u .area }
     by (Refused a) r = record { memory = refl; area = refl }
 
+-- a refused group: no number but 0 leaves anything changed
+pub refused-group-leaves : (t : List ℕ) (g : Group) (m : List ℕ) → (numberOf (groupStep t g m .answer) ≡ 0 → ⊥) → GroupUnchanged m g (groupStep t g m)
+unfolding groupStep
+refused-group-leaves t g m = by (admission t m (leb areaSize (length (g .area))))
+  where
+    by : (a : Admission) → (numberOf (ifGroupAdmitted a t g m .answer) ≡ 0 → ⊥) → GroupUnchanged m g (ifGroupAdmitted a t g m)
+    by (Admitted c) =
+        picked (λ (o : GroupOutcome). (numberOf (o .answer) ≡ 0 → ⊥) → GroupUnchanged m g o) (wellFormed g) _ _
+        (λ e some. absurd (some refl)) (λ e some. record { memory = refl; area = refl; statuses = refl })
+    by (Refused a) = λ some. record { memory = refl; area = refl; statuses = refl }
+
 -- ---- after a start
 
--- every list of calls that begins with an accepted start
-pub never-6 : (t : List ℕ) → Bytes t → (calls : List Call) → AllTyped calls → (m : List ℕ) → done (step t start m) ≡ true
-    → Never6 t calls (step t start m .memory)
-never-6 t bt calls y m e =
+-- every list of calls and groups that begins with an accepted start
+pub never-6 : (t : List ℕ) → Bytes t → (xs : List Action) → ActionsTyped xs → (m : List ℕ) → done (step t start m) ≡ true
+    → Never6 t xs (step t start m .memory)
+never-6 t bt xs y m e =
     let a = start-accepted t m e in
-    after calls y (a .table) (opened t (counts t)) (step t start m .memory) (start-follows t (counts t) (a .table) bt m (a .long))
+    after xs y (a .table) (opened t (counts t)) (step t start m .memory) (start-follows t (counts t) (a .table) bt m (a .long))
   where
-    after : (calls : List Call) → AllTyped calls → check t ≡ Accepted (counts t) → (b : Book) (m : List ℕ) → Follows t (counts t) b m → Never6 t calls m
+    not-6 : check t ≡ Accepted (counts t) → (b : Book) (m : List ℕ) → Follows t (counts t) b m → (x : Action)
+        → areaFits x ≡ true → numberOf (answerOf t x m) ≡ 6 → ⊥
+    not-6 right b m f (single call) = step-not-6 t (counts t) right bt b m f call
+    not-6 right b m f (group g) = group-not-6 t (counts t) right bt b g m f
+
+    after : (xs : List Action) → ActionsTyped xs → check t ≡ Accepted (counts t) → (b : Book) (m : List ℕ) → Follows t (counts t) b m → Never6 t xs m
     after [] y right b m f = tt
-    after (call ∷ calls) y right b m f = (
-      step-not-6 t (counts t) right bt b m f call,
-      after calls (y .1) right (advance t (counts t) b call) (step t call m .memory) (step-follows t (counts t) right bt b m f call (y .0)),
+    after (x ∷ xs) y right b m f = (
+      not-6 right b m f x,
+      after xs (y .1) right (advanceBy t (counts t) b x) (leaves t x m) (action-follows t (counts t) right bt b m f x (y .0)),
     )
 
 -- ---- before a start

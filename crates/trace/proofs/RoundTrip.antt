@@ -32,13 +32,14 @@ use Rattle.calls.proofs.Records.{object-there, ipdu-short}
 use Rattle.layer.specs.Admission.{workingMemory}
 use Rattle.layer.specs.Step.{Call, start, indication, step}
 use Rattle.trace.specs.Book.{Entry, Book, unopened, sends, lastOf, opened, advance, bookAfter, ownsIpduBit, messageBit, bookBit}
-use Rattle.trace.specs.Demand3.{Typed, AllTyped, done, wordOf, frame, names, CallKept, AllKept}
-use Rattle.trace.specs.RoundTrip.{readingIn, FramesRead, AllRead, Runs, memoryOf, Takes, Arrived, Like}
+use Rattle.trace.specs.Actions.{Action, expanded, bookAfterAll}
+use Rattle.trace.specs.Demand3.{Typed, ActionsTyped, done, wordOf, frame, names, CallKept, AllKept}
+use Rattle.trace.specs.RoundTrip.{readingIn, FramesRead, AllRead, Runs, memoryOf, ActionsRun, Takes, Arrived, Like}
 use Rattle.trace.proofs.Entries.{has, AllSent, Full, advance-full, started-full}
 use Rattle.trace.proofs.FramesInArea.{in-area-none}
-use Rattle.trace.proofs.Steps.{start-accepted, step-follows, step-frames}
+use Rattle.trace.proofs.Steps.{start-accepted, start-follows, step-follows, step-frames}
 use Rattle.trace.proofs.KeptLists.{list-kept}
-use Rattle.trace.proofs.Demand3.{demand-3}
+use Rattle.trace.proofs.ActionsKept.{expanded-typed, expanded-book, expanded-memory}
 use Rattle.trace.proofs.Receivers.{runs-follows}
 use Rattle.trace.proofs.Arrivals.{indication-arrives}
 
@@ -159,15 +160,30 @@ module _ (t : List ℕ) (c : Counts) (right : Right t c) where
     list-read calls (advance t c b call) (step t call m .memory) (advance-full t c b full call) (kept .1),
   )
 
--- every list that begins with an accepted start
-pub frames-read : (t : List ℕ) → Bytes t → (xs : List Call) → AllTyped xs → (m : List ℕ) → done (step t start m) ≡ true
-    → AllRead t (counts t) unopened (start ∷ xs) m
+-- every list of calls and groups that begins with an accepted start, as its single calls
+pub frames-read : (t : List ℕ) → Bytes t → (xs : List Action) → ActionsTyped xs → (m : List ℕ) → done (step t start m) ≡ true
+    → AllRead t (counts t) unopened (start ∷ expanded t (counts t) (opened t (counts t)) xs) m
 unfolding advance
-frames-read t bt xs y m e = (
-  λ k i z. absurd (in-area-none k z),
-  list-read t (counts t) (accepted-right t (counts t) (start-accepted t m e .table)) xs (opened t (counts t)) (step t start m .memory)
-      (started-full t (counts t) []) (demand-3 t bt xs xs y y m m e e .0 .1),
-)
+frames-read t bt xs y m e =
+    let c = counts t in
+    let a = start-accepted t m e in
+    let calls = expanded t c (opened t c) xs in
+    let f = start-follows t c (a .table) bt m (a .long) in (
+      λ k i z. absurd (in-area-none k z),
+      list-read t c (accepted-right t c (a .table)) calls (opened t c) (step t start m .memory) (started-full t c [])
+          (list-kept t c (a .table) bt calls (expanded-typed t c xs (opened t c) y) (opened t c) (step t start m .memory) f),
+    )
+
+-- and these leave a running layer, over the memory of the list
+pub actions-run : (t : List ℕ) → Bytes t → (xs : List Action) → ActionsTyped xs → (m : List ℕ) → done (step t start m) ≡ true
+    → bookAfterAll t (counts t) (opened t (counts t)) xs .stopped ≡ false → ActionsRun t xs m
+actions-run t bt xs y m e on =
+    let c = counts t in
+    let a = start-accepted t m e in
+    record {
+      runs = record { typed = expanded-typed t c xs (opened t c) y; accepted = e; running = rw (expanded-book t c xs (opened t c)) at on };
+      memory = expanded-memory t c (a .table) bt xs y (opened t c) (step t start m .memory) (start-follows t c (a .table) bt m (a .long));
+    }
 
 -- ---- two boards
 

@@ -59,3 +59,13 @@ abbrev pub expanded : List ℕ → Counts → Book → List Action → List Call
 expanded t c b [] = []
 expanded t c b (single call ∷ xs) = call ∷ expanded t c (advance t c b call) xs
 expanded t c b (group g ∷ xs) = pick (acceptsGroup b g) (callsOf g) [] ++ expanded t c (advanceBy t c b (group g)) xs
+
+-- ---- lists
+
+abbrev pub memoryAfterAll : List ℕ → List Action → List ℕ → List ℕ
+memoryAfterAll t [] m = m
+memoryAfterAll t (x ∷ xs) m = memoryAfterAll t xs (leaves t x m)
+
+abbrev pub bookAfterAll : List ℕ → Counts → Book → List Action → Book
+bookAfterAll t c b [] = b
+bookAfterAll t c b (x ∷ xs) = bookAfterAll t c (advanceBy t c b x) xs

@@ -144,8 +144,8 @@ pub record SameShape (g h : Group) : Type 0 where
 
 -- two actions alike: calls that are, or groups of one shape whose sends are
 pub data AlikeActions (t : List ℕ) (c : Counts) (b d : Book) (x y : Action) : Type 0 where
-  calls : (p q : Call) → x ≡ single p → y ≡ single q → Alike t c b d p q → AlikeActions t c b d x y
-  groups : (g h : Group) → x ≡ group g → y ≡ group h → SameShape g h → AllAlike t c b d (callsOf g) (callsOf h) → AlikeActions t c b d x y
+  alikeCalls : (p q : Call) → x ≡ single p → y ≡ single q → Alike t c b d p q → AlikeActions t c b d x y
+  alikeGroups : (g h : Group) → x ≡ group g → y ≡ group h → SameShape g h → AllAlike t c b d (callsOf g) (callsOf h) → AlikeActions t c b d x y
 
 abbrev pub ActionsAlike : List ℕ → Counts → Book → Book → List Action → List Action → Type 0
 ActionsAlike t c b d [] [] = Unit {0}

@@ -17,6 +17,7 @@ use Rattle.calls.specs.Answers.{Outcome}
 use Rattle.layer.specs.Admission.{workingMemory}
 use Rattle.layer.specs.Step.{Call, start, receive, step, memoryAfter}
 use Rattle.trace.specs.Book.{Book, sends, lastOf, opened, advance, bookAfter}
+use Rattle.trace.specs.Actions.{Action, single, expanded, memoryAfterAll}
 use Rattle.trace.specs.Demand3.{AllTyped, done, wordOf, frame, names}
 
 -- ---- frames
@@ -46,6 +47,11 @@ pub record Runs (t : List ℕ) (calls : List Call) (m : List ℕ) : Type 0 where
 -- its working memory
 abbrev pub memoryOf : List ℕ → List Call → List ℕ → List ℕ
 memoryOf t calls m = memoryAfter t (start ∷ calls) m
+
+-- a layer that runs after a list with groups: so it does after the single calls that the list stands for, with the same working memory
+pub record ActionsRun (t : List ℕ) (xs : List Action) (m : List ℕ) : Type 0 where
+  pub runs : Runs t (expanded t (counts t) (opened t (counts t)) xs) m
+  pub memory : memoryAfterAll t (single start ∷ xs) m ≡ memoryOf t (expanded t (counts t) (opened t (counts t)) xs) m
 
 -- there is a receive object of this number, and its filter passes the value
 pub record Takes (t : List ℕ) (j v : ℕ) (m : List ℕ) : Type 0 where
