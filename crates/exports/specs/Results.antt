@@ -5,6 +5,7 @@ use mathlib.Core.List.{List}
 use Prim.Native.Nat.{ℕ}
 use lib.Dec.{eqb}
 use Rattle.calls.specs.Answers.{Outcome, numberOf, valueOf}
+use Rattle.group.specs.Groups.{GroupOutcome}
 use Rattle.exports.specs.declared.Answer.{Answer}
 
 pub record Result : Type 0 where
@@ -18,6 +19,19 @@ result a m area = record { answer = a; memory = m; area = area }
 -- the outcome of a call
 abbrev pub resultOf : Outcome → Result
 resultOf o = result (record { number = numberOf (o .answer); value = valueOf (o .answer) }) (o .memory) (o .area)
+
+-- a group: its status list too
+pub record GroupResult : Type 0 where
+  pub answer : Answer
+  pub memory : List ℕ
+  pub area : List ℕ
+  pub statuses : List ℕ
+
+abbrev pub groupResult : Answer → List ℕ → List ℕ → List ℕ → GroupResult
+groupResult a m area statuses = record { answer = a; memory = m; area = area; statuses = statuses }
+
+abbrev pub groupResultOf : GroupOutcome → GroupResult
+groupResultOf o = groupResult (record { number = numberOf (o .answer); value = valueOf (o .answer) }) (o .memory) (o .area) (o .statuses)
 
 -- 0 is not good, anything else good
 abbrev pub isGood : ℕ → Bool

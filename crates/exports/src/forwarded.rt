@@ -118,7 +118,7 @@ pub extern "C" fn birnenschloss_tick(t: &[u8], m: &mut [u8], area: &mut [u8]) ->
 }
 
 // An answer as its number and value.
-fn answer_of(answer: layer::Answer) -> Answer
+pub fn answer_of(answer: layer::Answer) -> Answer
     ensures { λ r. ⌜ r ≡ record { number = numberOf answer; value = valueOf answer } ⌝ }
 {
     Answer {

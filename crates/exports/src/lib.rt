@@ -1,6 +1,7 @@
 // The layer and the check of a table under C names, for callers in C and Rust (include/birnenschloss.h, bindings/rust). Each
 // function forwards to a proved call and has its contract; none asks anything of its caller.
 mod forwarded;
+mod groups;
 
 pub use forwarded::birnenschloss_clear_marks;
 pub use forwarded::birnenschloss_confirm;
@@ -15,6 +16,8 @@ pub use forwarded::birnenschloss_status;
 pub use forwarded::birnenschloss_stop;
 pub use forwarded::birnenschloss_stop_periodic;
 pub use forwarded::birnenschloss_tick;
+pub use groups::birnenschloss_send_group;
+pub use groups::birnenschloss_send_records;
 ghost use mathlib.Core.Path.{_≡_};
 ghost use Rattle.table.specs.Check.{check};
 ghost use Rattle.config.specs.Decode.{ipduLength};
