@@ -4,11 +4,14 @@
  * What is lent. Every call works on bytes of the caller, given by their start and their number:
  *   table    says which I-PDUs and message objects there are (docs/TABLE.md); only read
  *   memory   working memory, at least 8192 bytes; the first 8192 are used (docs/MEMORY.md)
- *   area     request area of send and tick, at least 256 bytes; slot k, 8 bytes from byte 8 * k on,
- *            gets the bytes of I-PDU k, with zeros up to 8, when the I-PDU is requested
+ *   area     request area of sends and ticks, at least 256 bytes; slot k, 8 bytes from byte 8 * k
+ *            on, gets the bytes of I-PDU k, with zeros up to 8, when the I-PDU is requested
  *   bytes    the bytes of an indication; only read
- * Nothing needs an alignment. Nothing is kept between calls but in the lent memory, and no pointer
- * is kept at all: table and memory may move, if their bytes move with them.
+ *   pairs    what a group sends, as bytes or as structs; only read
+ *   statuses a byte for each pair of a group
+ * Structs of pairs are aligned as the compiler does it; nothing else needs an alignment. Nothing is
+ * kept between calls but in the lent memory, and no pointer is kept at all: table and memory may
+ * move, if their bytes move with them.
  *
  * Threads. There is no global state: calls over different memories may run at once. Two calls over
  * one memory must not, nor over one area: let a lock or an interrupt mask see to it.
@@ -24,7 +27,7 @@
  * the caller, and undefined otherwise:
  *   - no pointer is null, also where the length is 0: for no bytes, any other pointer will do
  *   - so many bytes as the length says are there, and have been written (static storage has)
- *   - memory and area share no byte with each other, with the table or with the bytes
+ *   - memory, area and statuses share no byte with each other, nor with what is only read
  */
 #ifndef BIRNENSCHLOSS_H
 #define BIRNENSCHLOSS_H
@@ -40,7 +43,7 @@
 #define E_COM_ID 1 /* no such object or I-PDU, or not of the kind that the call needs */
 #endif
 #ifndef E_COM_LENGTH
-#define E_COM_LENGTH 2 /* a good indication whose length is not the I-PDU's */
+#define E_COM_LENGTH 2 /* a good indication not as long as its I-PDU; a group of another form */
 #endif
 #ifndef E_COM_LIMIT
 #define E_COM_LIMIT 3 /* the queue has lost a value since the last receive */
@@ -64,6 +67,10 @@ typedef char birnenschloss_numbers_agree[(E_OK) == 0 && (E_COM_ID) == 1 && (E_CO
 #define BIRNENSCHLOSS_AREA_SIZE 256
 #define BIRNENSCHLOSS_SLOT_SIZE 8
 
+/* The most pairs of a group, and the bytes of a pair in the form of bytes. */
+#define BIRNENSCHLOSS_MOST_PAIRS 16
+#define BIRNENSCHLOSS_PAIR_SIZE 5
+
 /* The marks of a message object, added. */
 #define BIRNENSCHLOSS_MARK_ARRIVED 1
 #define BIRNENSCHLOSS_MARK_SENT 2
@@ -81,7 +88,13 @@ typedef struct birnenschloss_answer {
     uint32_t value;
 } birnenschloss_answer;
 
-/* Whether the word of a send or a tick names the I-PDU: its frame then stands in its slot. */
+/* A pair of a group: the number of a send object, and the value to send. */
+typedef struct birnenschloss_pair {
+    uint32_t object;
+    uint32_t value;
+} birnenschloss_pair;
+
+/* Whether the word of a send, group or tick names the I-PDU: its frame then stands in its slot. */
 static inline int birnenschloss_is_requested(uint32_t word, uint32_t ipdu)
 {
     return ipdu < 32 && (word >> ipdu & 1) != 0;
@@ -93,7 +106,7 @@ static inline const char *birnenschloss_number_text(uint32_t number)
     static const char *const texts[] = {
         "done",
         "no such message object or I-PDU, or not of the kind that the call needs",
-        "not as many bytes as the I-PDU has",
+        "not as many bytes as the I-PDU has; or a group of more than 16 pairs, with a pair cut off, or not with a status for each",
         "the queue has lost a value since the last receive",
         "the queue is empty",
         "the table is wrong",
@@ -136,6 +149,26 @@ birnenschloss_answer birnenschloss_send(const uint8_t *table, size_t table_lengt
                                         uint8_t *memory, size_t memory_length,
                                         uint8_t *area, size_t area_length,
                                         uint32_t object, uint32_t value);
+
+/* Sends a group of up to 16 values, one after the other as birnenschloss_send would, with one check
+ * of table, memory and area for all. A pair is 5 bytes: the number of a send object, then the
+ * value, its low byte first. statuses has one byte for each pair and gets the number that its own
+ * send answers, 0 or 1; a pair with 1 does not hold up the next. Answers 0 with the words of all
+ * sends joined; 2 (more than 16 pairs, a last pair that is cut off, or not as many statuses as
+ * pairs), 5, 6, 7. A refused group leaves the statuses too. */
+birnenschloss_answer birnenschloss_send_group(const uint8_t *table, size_t table_length,
+                                              uint8_t *memory, size_t memory_length,
+                                              uint8_t *area, size_t area_length,
+                                              const uint8_t *pairs, size_t pairs_length,
+                                              uint8_t *statuses, size_t statuses_length);
+
+/* The same with the pairs as structs, pair_count of them. A number above 255 is no object's. */
+birnenschloss_answer birnenschloss_send_records(const uint8_t *table, size_t table_length,
+                                                uint8_t *memory, size_t memory_length,
+                                                uint8_t *area, size_t area_length,
+                                                const birnenschloss_pair *pairs,
+                                                size_t pair_count,
+                                                uint8_t *statuses, size_t statuses_length);
 
 /* Sets the bits of a send object in its I-PDU, or the value of an unqueued receive object; empties
  * a queue and clears its overflow. The filter's old value becomes the value. Not filtered, and no
