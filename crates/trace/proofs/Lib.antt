@@ -17,6 +17,7 @@ pub mod Noninterference
 pub mod ActionsSame
 pub mod Demand3
 pub mod Pins
+pub mod GroupPins
 pub mod Entries
 pub mod RoundTrip
 pub mod Receivers

@@ -50,7 +50,7 @@ abbrev allBytes : List ℕ → Bool
 allBytes [] = true
 allBytes (b ∷ bs) = ltb b 256 && allBytes bs
 
-tested : (bs : List ℕ) → allBytes bs ≡ true → Bytes bs
+pub tested : (bs : List ℕ) → allBytes bs ≡ true → Bytes bs
 tested [] e i = omega arith
 tested (b ∷ bs) e zero = ltb-true b 256 (and-split (ltb b 256) (allBytes bs) e .0)
 tested (b ∷ bs) e (suc i) = tested bs (and-split (ltb b 256) (allBytes bs) e .1) i
@@ -76,7 +76,7 @@ all =
     ∷ group (groupOf (inRecords (given.pair 0 4294967295 ∷ [])) (999 ∷ []) (999 ∷ []))
     ∷ []
 
-none : Bytes []
+pub none : Bytes []
 none i = omega arith
 
 pub all-typed : ActionsTyped all
@@ -95,17 +95,17 @@ all-typed = (
 )
 
 -- filter 10 (new above old), initial value 0
-abbrev table : List ℕ
+abbrev pub table : List ℕ
 table = pair (sendIpdu 0 0 0 0 10) (sendObject 10 0 0)
 
-bytes : Bytes table
+pub bytes : Bytes table
 unfolding bytesOf
 bytes = tested table refl
 
-abbrev here : List ℕ
+abbrev pub here : List ℕ
 here = replicate areaSize 170
 
-abbrev there : List ℕ
+abbrev pub there : List ℕ
 there = replicate areaSize 85
 
 -- other areas, and another value where the filter drops both
@@ -172,20 +172,20 @@ abbrev after : List Call → List ℕ → List ℕ
 after [] m = m
 after (call ∷ calls) m = after calls (step table call m .memory)
 
-abbrev m : List ℕ
+abbrev pub m : List ℕ
 m = replicate memorySize 165
 
-abbrev n : List ℕ
+abbrev pub n : List ℕ
 n = replicate memorySize 90
 
 -- the start is accepted, over either memory
-started-m : done (step table start m) ≡ true
+pub started-m : done (step table start m) ≡ true
 unfolding
     value bytesOf part numberAt place room owns filterRight filterOf counts ipduRecord objectRecord
     offsetsRight headerRight ipduRight references objectRight shareBit overlapsLower check startAdmission step
 started-m = refl
 
-started-n : done (step table start n) ≡ true
+pub started-n : done (step table start n) ≡ true
 unfolding
     value bytesOf part numberAt place room owns filterRight filterOf counts ipduRecord objectRecord
     offsetsRight headerRight ipduRight references objectRight shareBit overlapsLower check startAdmission step
