@@ -80,6 +80,7 @@ fn peer_call(call: layer::Call) -> call::Call {
         layer::Call::Indication(ipdu, good) => Indication { ipdu, good: good != 0, bytes: layer::FRAME.to_vec() },
         layer::Call::Confirm(ipdu, good) => Confirm { ipdu, good: good != 0 },
         layer::Call::Tick => Tick,
+        layer::Call::Group(..) | layer::Call::Records(..) => unreachable!("a group is measured by itself"),
     }
 }
 
@@ -118,7 +119,8 @@ fn main() {
     let arguments: Vec<String> = std::env::args().collect();
     let large = arguments[2] == "large";
     let t = if large { layer::large() } else { layer::case12() };
-    for row in layer::rows(large).iter().filter(|row| row.answer.0 == 0) {
+    let single = |row: &&Row| !matches!(row.call, layer::Call::Group(..) | layer::Call::Records(..));
+    for row in layer::rows(large).iter().filter(|row| row.answer.0 == 0).filter(single) {
         let (state, call) = (prepared(&t, row), peer_call(row.call));
         // Refused right behind the checks: for a start, a short memory; else marks of an object that no table has.
         let (refused, memory, number) = match row.call {

@@ -33,6 +33,26 @@ extern "C" {
     ) -> Answer;
     pub fn birnenschloss_confirm(t: *const u8, tl: usize, m: *mut u8, ml: usize, ipdu: u32, good: u32) -> Answer;
     pub fn birnenschloss_tick(t: *const u8, tl: usize, m: *mut u8, ml: usize, area: *mut u8, al: usize) -> Answer;
+    pub fn birnenschloss_send_group(
+        t: *const u8, tl: usize, m: *mut u8, ml: usize, area: *mut u8, al: usize, pairs: *const u8, pl: usize,
+        statuses: *mut u8, sl: usize,
+    ) -> Answer;
+    pub fn birnenschloss_send_records(
+        t: *const u8, tl: usize, m: *mut u8, ml: usize, area: *mut u8, al: usize, pairs: *const [u32; 2], pl: usize,
+        statuses: *mut u8, sl: usize,
+    ) -> Answer;
+}
+
+/// The pairs of a group: in `case12` object 0 again and again, in `large` objects 0, 1, 2 and so on; each value differs.
+const ONE_OBJECT: u32 = 0;
+const EACH_OBJECT: u32 = 1;
+
+fn pairs(step: u32) -> [[u32; 2]; 16] {
+    std::array::from_fn(|j| [step * j as u32, 5 + j as u32])
+}
+
+fn pair_bytes(step: u32) -> Vec<u8> {
+    pairs(step).iter().flat_map(|[object, value]| [&[*object as u8][..], &value.to_le_bytes()].concat()).collect()
 }
 
 pub const FRAME: [u8; 8] = [0x5A, 0xC3, 0x7E, 0x91, 0x3C, 0xE7, 0xA5, 0x69];
@@ -55,6 +75,8 @@ pub enum Call {
     Indication(u32, u32),
     Confirm(u32, u32),
     Tick,
+    Group(usize, u32),
+    Records(usize, u32),
 }
 use Call::*;
 
@@ -76,6 +98,16 @@ pub fn make(call: Call, t: &[u8], m: &mut [u8], area: &mut [u8]) -> Answer {
             Indication(k, good) => birnenschloss_indication(tp, tl, mp, ml, k, good, FRAME.as_ptr(), FRAME.len()),
             Confirm(k, good) => birnenschloss_confirm(tp, tl, mp, ml, k, good),
             Tick => birnenschloss_tick(tp, tl, mp, ml, area.as_mut_ptr(), area.len()),
+            Group(n, step) => {
+                let (pairs, mut statuses) = (pair_bytes(step), [0xFF; 16]);
+                let (pp, sp) = (pairs.as_ptr(), statuses.as_mut_ptr());
+                birnenschloss_send_group(tp, tl, mp, ml, area.as_mut_ptr(), area.len(), pp, 5 * n, sp, n)
+            }
+            Records(n, step) => {
+                let (pairs, mut statuses) = (pairs(step), [0xFF; 16]);
+                let (pp, sp) = (pairs.as_ptr(), statuses.as_mut_ptr());
+                birnenschloss_send_records(tp, tl, mp, ml, area.as_mut_ptr(), area.len(), pp, n, sp, n)
+            }
         }
     }
 }
@@ -192,6 +224,12 @@ pub fn rows(large: bool) -> Vec<Row> {
     row("tick_quiet", &periodic, Tick, (0, 0), (0..1, 0), (0, false));
     row("tick_postponed", &ticks(&waits, 2), Tick, (0, 1), (of_0.clone(), 2), (0, false));
     row("tick_deadline", &ticks(&sent, 9), Tick, (0, 0), (of_0, 8), (0, false));
+    let step = if large { EACH_OBJECT } else { ONE_OBJECT };
+    let word = |n| if large && n == 16 { 0b1011 } else { 1 };
+    for (n, group, records) in [(1, "group_1", "records_1"), (4, "group_4", "records_4"), (16, "group_16", "records_16")] {
+        row(group, &[Start], Group(n, step), (0, word(n)), (0..1, 0), (0, true));
+        row(records, &[Start], Records(n, step), (0, word(n)), (0..1, 0), (0, true));
+    }
     if large {
         row("send_request_big", &[Start], Send(1, 5), (0, 1), (1..2, 0), (0, true));
         row("send_pending", &[Start], Send(2, 5), (0, 0), (2..3, 0), (0, true));
