@@ -47,11 +47,11 @@ extern "C" {
 const ONE_OBJECT: u32 = 0;
 const EACH_OBJECT: u32 = 1;
 
-fn pairs(step: u32) -> [[u32; 2]; 16] {
+pub fn pairs(step: u32) -> [[u32; 2]; 16] {
     std::array::from_fn(|j| [step * j as u32, 5 + j as u32])
 }
 
-fn pair_bytes(step: u32) -> Vec<u8> {
+pub fn pair_bytes(step: u32) -> Vec<u8> {
     pairs(step).iter().flat_map(|[object, value]| [&[*object as u8][..], &value.to_le_bytes()].concat()).collect()
 }
 

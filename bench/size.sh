@@ -1,7 +1,7 @@
 #!/usr/bin/env bash
 # The size of the archive's code, and of each function, and the stack that each exported call needs. The stack is measured:
 # every call of bench/layer.rs is made on a painted stack of its own, and the deepest byte that it changed is looked for, under
-# two paints. It has the return address, and 16 bytes of arguments of send and indication. Functions that are no export have
+# two paints. It has the return address, and the arguments from the seventh on. Functions that are no export have
 # their stack in that of their callers. Needs target/staticlib/libexports.a, rustc, size and nm; x86-64 alone.
 set -euo pipefail
 cd "$(dirname "$0")/.."

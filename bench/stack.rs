@@ -13,8 +13,9 @@ extern "C" {
 }
 
 const STACK: usize = 65536;
-/// Arguments that a function with eight of them finds on the stack.
-const PUSHED: usize = 16;
+/// Arguments from the seventh on are found on the stack; a function has ten at most.
+const IN_REGISTERS: usize = 6;
+const PUSHED: usize = 4;
 /// A byte that is written with one paint shows under the other.
 const PAINTS: [u8; 2] = [0xAA, 0x55];
 
@@ -33,8 +34,17 @@ fn made(call: layer::Call, t: &[u8], m: &mut [u8], area: &mut [u8]) -> Made {
     let (a, al) = (area.as_mut_ptr() as u64, area.len() as u64);
     let (f, fl) = (layer::FRAME.as_ptr() as u64, layer::FRAME.len() as u64);
     let short = matches!(call, StartShort) as usize;
+    let statuses = Box::leak(Box::new([0xFFu8; 16])).as_mut_ptr() as u64;
     use layer::*;
     let (name, function, more): (_, _, &[u64]) = match call {
+        Group(n, step) => {
+            let pairs = Box::leak(pair_bytes(step).into_boxed_slice()).as_ptr() as u64;
+            ("send_group", birnenschloss_send_group as *const (), &[a, al, pairs, 5 * n as u64, statuses, n as u64])
+        }
+        Records(n, step) => {
+            let pairs = Box::leak(Box::new(pairs(step))).as_ptr() as u64;
+            ("send_records", birnenschloss_send_records as *const (), &[a, al, pairs, n as u64, statuses, n as u64])
+        }
         Start | StartShort => ("start", birnenschloss_start as *const (), &[]),
         Stop => ("stop", birnenschloss_stop as *const (), &[]),
         Send(i, v) => ("send", birnenschloss_send as *const (), &[a, al, i.into(), v.into()]),
@@ -55,13 +65,16 @@ fn made(call: layer::Call, t: &[u8], m: &mut [u8], area: &mut [u8]) -> Made {
 
 /// Calls the function on the stack, and gives its number and value.
 fn call_on(stack: &mut Stack, made: &Made) -> (u32, u32) {
-    let [a, b, c, d, e, f, g, h] = std::array::from_fn(|i| *made.arguments.get(i).unwrap_or(&0));
+    let [a, b, c, d, e, f] = std::array::from_fn(|i| *made.arguments.get(i).unwrap_or(&0));
+    let more: [usize; PUSHED] = std::array::from_fn(|i| *made.arguments.get(IN_REGISTERS + i).unwrap_or(&0));
     let answer: u64;
     // The arguments are right for the function, and the stack is lent for the call and long enough.
     unsafe {
         asm!(
-            "mov r12, rsp", "mov rsp, {top}", "push {h}", "push {g}", "call {function}", "mov rsp, r12",
-            top = in(reg) stack.0.as_mut_ptr_range().end, g = in(reg) g, h = in(reg) h, function = in(reg) made.function,
+            "mov r12, rsp", "mov rsp, {top}",
+            "push qword ptr [{more} + 24]", "push qword ptr [{more} + 16]", "push qword ptr [{more} + 8]", "push qword ptr [{more}]",
+            "call {function}", "mov rsp, r12",
+            top = in(reg) stack.0.as_mut_ptr_range().end, more = in(reg) more.as_ptr(), function = in(reg) made.function,
             in("rdi") a, in("rsi") b, in("rdx") c, in("rcx") d, in("r8") e, in("r9") f,
             lateout("rax") answer, out("r12") _, clobber_abi("C"),
         );
@@ -74,7 +87,7 @@ fn depth(stack: &mut Stack, made: &Made, paint: u8, answer: (u32, u32)) -> usize
     stack.0.fill(paint);
     assert_eq!(call_on(stack, made), answer, "{}", made.name);
     let deepest = stack.0.iter().position(|&byte| byte != paint).expect("a return address");
-    STACK - deepest - if made.arguments.len() > 6 { 0 } else { PUSHED }
+    STACK - deepest - 8 * (PUSHED - made.arguments.len().saturating_sub(IN_REGISTERS))
 }
 
 fn main() {
