@@ -1,7 +1,7 @@
 #!/usr/bin/env python3
 """The documents: every link of README.md, CHANGELOG.md, docs/ and examples/README.md leads to a file, one with # to a heading of it; a link whose
 words are a name in a code font leads to a file that declares the name; and in a table every such name in a column of definitions, functions or
-statements is declared in a file that its cell links, or, where the cell links none, its row. docs/CLAIMS.md names every must-fail edit, and where it
+statements is declared in a file that its cell links, or, where the cell links none, its row. docs/WRONG_VERSIONS.md names every must-fail edit, and where it
 names one as CRATE/EDIT, there is such a one. Prints how many of each it found."""
 import re
 import sys
@@ -132,7 +132,7 @@ def look_at_edits(document):
 
 for document in DOCUMENTS:
     look_at(document)
-look_at_edits(ROOT / "docs/CLAIMS.md")
+look_at_edits(ROOT / "docs/WRONG_VERSIONS.md")
 for words in problems:
     print(words)
 if problems:
