@@ -15,7 +15,8 @@ pub extern "C" fn birnenschloss_send_group(
     pairs: &[u8],
     statuses: &mut [u8],
 ) -> Answer
-    ensures { λ r. ⌜ groupResult r (now (m .exit)) (now (area .exit)) (now (statuses .exit)) ≡ groupResultOf (groupStep (now (t .entry)) (groupOf (inBytes (now (pairs .entry))) (now (area .entry)) (now (statuses .entry))) (now (m .entry))) ⌝ }
+    ensures { λ r. ⌜ groupResult r (now (m .exit)) (now (area .exit)) (now (statuses .exit))
+        ≡ groupResultOf (groupStep (now (t .entry)) (groupOf (inBytes (now (pairs .entry))) (now (area .entry)) (now (statuses .entry))) (now (m .entry))) ⌝ }
 {
     forwarded::answer_of(group::send_group(t, m, area, pairs, statuses))
 }
@@ -28,7 +29,8 @@ pub extern "C" fn birnenschloss_send_records(
     pairs: &[Pair],
     statuses: &mut [u8],
 ) -> Answer
-    ensures { λ r. ⌜ groupResult r (now (m .exit)) (now (area .exit)) (now (statuses .exit)) ≡ groupResultOf (groupStep (now (t .entry)) (groupOf (inRecords (now (pairs .entry))) (now (area .entry)) (now (statuses .entry))) (now (m .entry))) ⌝ }
+    ensures { λ r. ⌜ groupResult r (now (m .exit)) (now (area .exit)) (now (statuses .exit))
+        ≡ groupResultOf (groupStep (now (t .entry)) (groupOf (inRecords (now (pairs .entry))) (now (area .entry)) (now (statuses .entry))) (now (m .entry))) ⌝ }
 {
     forwarded::answer_of(group::send_records(t, m, area, pairs, statuses))
 }
