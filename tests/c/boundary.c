@@ -1,13 +1,10 @@
 /*
- * Every function of birnenschloss.h, called from C; the answers are worked out by hand from
- * document 01. Memory and area are longer than needed, so that lengths and pointers that change
- * places would show, and their ends must stay. Ends with 1 at the first answer that differs.
+ * Every function of birnenschloss.h but the group send, which groups.c has, called from C; the
+ * answers are worked out by hand from document 01. Memory and area are longer than needed, so that
+ * lengths and pointers that change places would show, and their ends must stay.
  */
-#include <stdio.h>
-#include <stdlib.h>
-#include <string.h>
-
-#include "birnenschloss.h"
+#define TEST "boundary.c"
+#include "checks.h"
 
 enum { DIRECT, INCOMING, PERIODIC, NO_IPDU };
 enum { READING, QUEUE, LAST, INSIDE, WIDE, NO_OBJECT };
@@ -59,48 +56,14 @@ static struct lent {
     uint8_t area[AREA_LENT];
 } lent, before;
 
-static unsigned answers;
-
 #define LENT lent.table, TABLE_SIZE, lent.memory, MEMORY_LENT
 #define AREA lent.area, AREA_LENT
 
-static void require(int holds, int line, const char *what)
-{
-    if (!holds) {
-        printf("boundary.c:%d: %s\n", line, what);
-        exit(1);
-    }
-}
-
-static void answered(birnenschloss_answer a, uint32_t number, uint32_t value, int line)
-{
-    answers++;
-    if (a.number != number || a.value != value) {
-        printf("boundary.c:%d: answered %lu with %lu, should be %lu with %lu\n", line,
-               (unsigned long)a.number, (unsigned long)a.value, (unsigned long)number,
-               (unsigned long)value);
-        exit(1);
-    }
-}
-
-static void note_bytes(void) { memcpy(&before, &lent, sizeof lent); }
-
-#define ANSWERS(call, number, value) answered(call, number, value, __LINE__)
-#define REQUIRE(condition) require(condition, __LINE__, "does not hold: " #condition)
-#define SAME_BYTES() require(memcmp(&before, &lent, sizeof lent) == 0, __LINE__, "bytes changed")
 #define LENGTH(n, ipdu, length) \
     (answers++, REQUIRE(birnenschloss_ipdu_length(lent.table, n, ipdu) == (length)))
 #define WRONG(n, place) \
     (ANSWERS(birnenschloss_check(lent.table, n), 5, place), LENGTH(n, 0, 0), LENGTH(n, 2, 0))
 #define TEXT(number) birnenschloss_number_text(number)
-
-/* A call that must be refused, and leave all lent bytes. */
-#define REFUSES(call, number)     \
-    do {                          \
-        note_bytes();             \
-        ANSWERS(call, number, 0); \
-        SAME_BYTES();             \
-    } while (0)
 
 /* Call n of the thirteen, with these lengths and otherwise right arguments. */
 enum { START, STOP, SEND = 2, TICK = 12, CALLS = 13 };
@@ -141,7 +104,7 @@ static void tables(void)
     size_t n;
     fresh(0xA5);
     lent.table[65] = PERIODIC, lent.table[67] = 40; /* reading: no 0 behind the I-PDUs */
-    note_bytes();
+    NOTE_BYTES();
     ANSWERS(birnenschloss_check(lent.table, TABLE_SIZE), E_OK, 0);
     for (n = 0; n < 3; n++)
         LENGTH(TABLE_SIZE, n, lengths[n]);
@@ -173,6 +136,7 @@ static void texts(void)
     for (n = 9; n != 0; n *= 2)
         REQUIRE(strcmp(TEXT(n), TEXT(0xFFFFFFFF)) == 0);
     REQUIRE(strstr(memory, "8192") && strstr(memory, "256") && strstr(memory, "start"));
+    REQUIRE(strstr(TEXT(E_COM_LENGTH), "I-PDU") && strstr(TEXT(E_COM_LENGTH), "group"));
     REQUIRE(strstr(TEXT(E_OK), "done") && strstr(TEXT(BIRNENSCHLOSS_E_NOT_REQUESTED), "request"));
 }
 
@@ -337,7 +301,7 @@ static void stop(void)
     fresh(0xA5);
     ANSWERS(birnenschloss_start(LENT), 0, 0);
     REQUIRE(lent.memory[0] == RUNS);
-    note_bytes();
+    NOTE_BYTES();
     ANSWERS(birnenschloss_stop(LENT), 0, 0);
     before.memory[0] = STOPPED;
     SAME_BYTES();

@@ -4,7 +4,8 @@ use crate::linked::Answer;
 use crate::table::WrongRecord;
 use core::fmt;
 
-/// Why a call was refused. A refused call leaves the memory and the request area as they were.
+/// Why a call was refused. A refused call leaves the memory, the request area and the statuses of a
+/// group as they were.
 ///
 /// Number 3, a value lost by a full queue, is no error: see [`Received`] and [`Status`]. A receive
 /// that gives it has removed the value and cleared the overflow.
@@ -14,7 +15,8 @@ pub enum Error {
     /// or I-PDU is wanted or the other way round, or in [`status`](crate::Layer::status) an
     /// object with no queue.
     Id,
-    /// 2, E_COM_LENGTH: a good indication whose bytes are not as many as the I-PDU's.
+    /// 2, E_COM_LENGTH: not as many bytes as the I-PDU has; or a group of more than 16 pairs, with
+    /// a pair cut off, or not with a status for each.
     Length,
     /// 4, E_COM_NOMSG: the queue is empty.
     NoMessage,
@@ -69,7 +71,10 @@ impl fmt::Display for Error {
     fn fmt(&self, f: &mut fmt::Formatter<'_>) -> fmt::Result {
         f.write_str(match self {
             Error::Id => "no such message object or I-PDU, or not of the kind that the call needs",
-            Error::Length => "not as many bytes as the I-PDU has",
+            Error::Length => {
+                "not as many bytes as the I-PDU has; or a group of more than 16 pairs, \
+                 with a pair cut off, or not with a status for each"
+            }
             Error::NoMessage => "the queue is empty",
             Error::Table => "the table is wrong",
             Error::Memory => {

@@ -1,6 +1,7 @@
 //! A layer with working memory and request area of its own.
 
 use crate::answers::{self, Error, Marks, Received, Status};
+use crate::group::{Pair, PairStatus};
 use crate::layer::{Layer, Outcome};
 use crate::lent::{Area, Frames, Memory, Requests, AREA_SIZE, MEMORY_SIZE};
 use crate::linked;
@@ -105,6 +106,17 @@ impl<'t> Controller<'t, Started> {
         layer.send(area, object, value)
     }
 
+    /// As [`Layer::send_group`]: [`frame`](Controller::frame) and [`frames`](Controller::frames)
+    /// give the bytes of what it requests.
+    pub fn send_group(
+        &mut self,
+        pairs: &[Pair],
+        statuses: &mut [PairStatus],
+    ) -> Result<Requests, Error> {
+        let (mut layer, area) = self.layer_and_area();
+        layer.send_group(area, pairs, statuses)
+    }
+
     /// As [`Layer::initialise`].
     pub fn initialise(&mut self, object: ObjectNumber, value: u32) -> Result<(), Error> {
         self.layer().initialise(object, value)
@@ -162,14 +174,14 @@ impl<'t> Controller<'t, Started> {
         granted(layer.tick(area))
     }
 
-    /// The bytes of an I-PDU that this controller's last send or tick has requested; `None` where
-    /// it was not requested.
+    /// The bytes of an I-PDU that this controller's last send, group send or tick has requested;
+    /// `None` where it was not requested.
     pub fn frame(&self, requests: Requests, ipdu: IpduNumber) -> Option<&[u8]> {
         requests.frame(&self.area, self.table, ipdu)
     }
 
-    /// Each I-PDU that this controller's last send or tick has requested, by rising number, with
-    /// its bytes. To confirm in the loop, go through the requests and ask for each
+    /// Each I-PDU that this controller's last send, group send or tick has requested, by rising
+    /// number, with its bytes. To confirm in the loop, go through the requests and ask for each
     /// [`frame`](Controller::frame).
     pub fn frames(&self, requests: Requests) -> Frames<'_> {
         requests.frames(&self.area, self.table)

@@ -1,6 +1,7 @@
-//! The thirteen calls.
+//! The thirteen calls and the group send.
 
 use crate::answers::{self, Error, Marks, Received, Status};
+use crate::group::{Pair, PairStatus, MOST_PAIRS};
 use crate::lent::{Area, Memory, Requests, MEMORY_SIZE};
 use crate::linked;
 use crate::numbers::{IpduNumber, ObjectNumber};
@@ -15,7 +16,8 @@ pub enum Outcome {
     NotGood,
 }
 
-/// The interaction layer: a checked table and working memory, with the thirteen calls.
+/// The interaction layer: a checked table and working memory, with the thirteen calls and the group
+/// send.
 ///
 /// [`start`](Layer::start) comes first. Over memory that was never started, the other calls are
 /// refused with [`Error::Memory`] where a stored number is out of its range, and over memory of
@@ -95,6 +97,63 @@ impl<'t, 'm> Layer<'t, 'm> {
     ) -> Result<Requests, Error> {
         let (t, m) = self.lent();
         answers::value(linked::send(t, m, area, object.0, value)).map(Requests::of)
+    }
+
+    /// Sends up to [`MOST_PAIRS`] values, one after the other as [`send`](Layer::send) would, with
+    /// one check of the memory for all. The status of a pair stands in its place in `statuses`; a
+    /// pair with a wrong object does not hold up the next. The requests are those of all the sends.
+    /// A frame has what was packed when it was requested: for a pending object to be in it, it
+    /// stands before the triggered one.
+    ///
+    /// [`Error::Length`] where there are more pairs than that, or not as many statuses as pairs. A
+    /// refused group leaves the statuses as they were.
+    ///
+    /// ```
+    /// use birnenschloss::{Layer, Memory, ObjectNumber, Pair, PairStatus, Table};
+    /// # use birnenschloss::{AREA_SIZE, MEMORY_SIZE};
+    /// # let mut bytes = [0; 96];
+    /// # bytes[..10].copy_from_slice(&[1, 0, 2, 0, 16, 0, 32, 0, 96, 0]);
+    /// # bytes[16..28].copy_from_slice(&[1, 4, 0, 0, 0, 0, 0, 0, 0, 0, 4, 0]);
+    /// # bytes[32..39].copy_from_slice(&[1, 0, 255, 0, 10, 0, 1]);
+    /// # bytes[64..71].copy_from_slice(&[1, 0, 255, 16, 12, 0, 0]);
+    /// # let table = Table::check(&bytes)?;
+    /// # let mut memory = [0xA5; MEMORY_SIZE];
+    ///
+    /// const HUMIDITY: ObjectNumber = ObjectNumber(0); // pending
+    /// const TEMPERATURE: ObjectNumber = ObjectNumber(1); // triggered, in the same I-PDU
+    ///
+    /// let mut layer = Layer::new(table, Memory::from(&mut memory));
+    /// layer.start()?;
+    /// let pairs = [
+    ///     Pair { object: HUMIDITY, value: 463 },
+    ///     Pair { object: ObjectNumber(9), value: 1 }, // not in the table
+    ///     Pair { object: TEMPERATURE, value: 215 },
+    /// ];
+    /// let (mut area, mut statuses) = ([0xA5; AREA_SIZE], [PairStatus::Id; 3]);
+    /// let requests = layer.send_group(&mut area, &pairs, &mut statuses)?;
+    /// assert_eq!(statuses, [PairStatus::Sent, PairStatus::Id, PairStatus::Sent]);
+    /// for (_, frame) in requests.frames(&area, table) {
+    ///     assert_eq!(frame, [0xCF, 0x01, 0xD7, 0x00]);
+    /// }
+    /// # assert_eq!(requests.word(), 1);
+    /// # Ok::<(), birnenschloss::Error>(())
+    /// ```
+    pub fn send_group(
+        &mut self,
+        area: &mut Area,
+        pairs: &[Pair],
+        statuses: &mut [PairStatus],
+    ) -> Result<Requests, Error> {
+        // No group has more than 16 statuses: 17 are refused as any longer list would be.
+        let mut bytes = [0; MOST_PAIRS + 1];
+        let length = statuses.len().min(bytes.len());
+        let (t, m) = self.lent();
+        let answer = linked::send_records(t, m, area, pairs, &mut bytes[..length]);
+        let requests = answers::value(answer).map(Requests::of)?;
+        for (status, byte) in statuses.iter_mut().zip(bytes) {
+            *status = PairStatus::of(byte);
+        }
+        Ok(requests)
     }
 
     /// Sets the value of an object, with no filter and no request. A queue is emptied, and its

@@ -11,8 +11,8 @@ pub const AREA_SIZE: usize = 256;
 
 const SLOT_SIZE: usize = 8;
 
-/// A request area. Any contents will do: a send or tick writes the slots of the I-PDUs that it
-/// requests, and no other.
+/// A request area. Any contents will do: a send, group send or tick writes the slots of the I-PDUs
+/// that it requests, and no other.
 pub type Area = [u8; AREA_SIZE];
 
 /// Working memory, borrowed. Any contents will do: a start writes all of it.
@@ -57,7 +57,7 @@ impl<'m> From<&'m mut [u8; MEMORY_SIZE]> for Memory<'m> {
     }
 }
 
-/// The I-PDUs that a send or tick has requested: they are to go to the bus now.
+/// The I-PDUs that a send, group send or tick has requested: they are to go to the bus now.
 ///
 /// ```
 /// use birnenschloss::{Error, IpduNumber, Layer, Memory, Table, AREA_SIZE, MEMORY_SIZE};

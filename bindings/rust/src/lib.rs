@@ -30,6 +30,8 @@
 //! # Ok::<(), birnenschloss::Error>(())
 //! ```
 //!
+//! [`send_group`](Controller::send_group) sends up to [`MOST_PAIRS`] values by one call.
+//!
 //! A [`Layer`] has the same calls in [`Memory`] and an [`Area`] that the caller lends. It allocates
 //! nothing and keeps nothing of its own, and goes on where an earlier one has left its memory;
 //! a forgotten start is refused when a call is made.
@@ -64,6 +66,7 @@
 
 mod answers;
 mod controller;
+mod group;
 mod layer;
 mod lent;
 #[allow(unsafe_code)]
@@ -73,6 +76,7 @@ mod table;
 
 pub use answers::{Error, Marks, Received, Status};
 pub use controller::{Controller, Started, Unstarted};
+pub use group::{Pair, PairStatus, MOST_PAIRS};
 pub use layer::{Layer, Outcome};
 pub use lent::{Area, Frames, IpduNumbers, Memory, Requests, AREA_SIZE, MEMORY_SIZE};
 pub use numbers::{IpduNumber, ObjectNumber};

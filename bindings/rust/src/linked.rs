@@ -3,7 +3,10 @@
 //! A slice goes over as its start and its length. The start of a Rust slice is never null, also
 //! of an empty one. The functions are proved to stay inside what they are lent, for any contents.
 //! Nothing checks these declarations against the proved source; tests/calls.rs compares the
-//! behaviour of each with an independent layer, and the test in table.rs that of ipdu_length.
+//! behaviour of each with an independent layer, tests/groups.rs that of send_records, and the test
+//! in table.rs that of ipdu_length.
+
+use crate::group::Pair;
 
 /// A number and what is returned with it.
 #[repr(C)]
@@ -22,6 +25,10 @@ extern "C" {
     fn birnenschloss_stop(t: *const u8, tn: usize, m: *mut u8, mn: usize) -> Answer;
     fn birnenschloss_send(
         t: *const u8, tn: usize, m: *mut u8, mn: usize, a: *mut u8, an: usize, object: u32, value: u32,
+    ) -> Answer;
+    fn birnenschloss_send_records(
+        t: *const u8, tn: usize, m: *mut u8, mn: usize, a: *mut u8, an: usize,
+        p: *const Pair, pn: usize, s: *mut u8, sn: usize,
     ) -> Answer;
     fn birnenschloss_initialise(
         t: *const u8, tn: usize, m: *mut u8, mn: usize, object: u32, value: u32,
@@ -81,6 +88,24 @@ pub fn send(t: &[u8], m: &mut [u8], a: &mut [u8], object: u32, value: u32) -> An
             a.len(),
             object,
             value,
+        )
+    }
+}
+
+pub fn send_records(t: &[u8], m: &mut [u8], a: &mut [u8], p: &[Pair], s: &mut [u8]) -> Answer {
+    // SAFETY: t, m, a, p and s are lent for the whole call; m, a and s are lent to nothing else.
+    unsafe {
+        birnenschloss_send_records(
+            t.as_ptr(),
+            t.len(),
+            m.as_mut_ptr(),
+            m.len(),
+            a.as_mut_ptr(),
+            a.len(),
+            p.as_ptr(),
+            p.len(),
+            s.as_mut_ptr(),
+            s.len(),
         )
     }
 }

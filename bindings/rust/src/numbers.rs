@@ -10,6 +10,7 @@
 /// layer.confirm(ObjectNumber(0), Outcome::Good);
 /// # }
 /// ```
+#[repr(transparent)]
 #[derive(Clone, Copy, Debug, PartialEq, Eq, PartialOrd, Ord, Hash)]
 pub struct ObjectNumber(
     /// The number; one that the table does not have is answered by [`Error::Id`](crate::Error::Id).
