@@ -153,8 +153,8 @@ birnenschloss_answer birnenschloss_send(const uint8_t *table, size_t table_lengt
 /* Sends a group of up to 16 values, one after the other as birnenschloss_send would, with one check
  * of table, memory and area for all. A pair is 5 bytes: the number of a send object, then the
  * value, its low byte first. statuses has one byte for each pair and gets the number that its own
- * send answers, 0 or 1; a pair with 1 does not hold up the next. A frame has what was packed when it
- * was requested: for a pending object to be in it, its pair stands before the triggered one's.
+ * send answers, 0 or 1; a pair with 1 does not hold up the next. A frame has what was packed when
+ * it was requested: for a pending object to be in it, its pair stands before the triggered one's.
  * Answers 0 with the words of all sends joined; 2 (more than 16 pairs, a last pair that is cut off,
  * or not as many statuses as pairs), 5, 6, 7. A refused group leaves the statuses too. */
 birnenschloss_answer birnenschloss_send_group(const uint8_t *table, size_t table_length,

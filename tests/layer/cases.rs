@@ -1,43 +1,58 @@
 //! The cases 1 to 11 of document 01, on the library and the reference.
 
+use crate::act::Act;
 use crate::call::Call;
 use crate::library::Library;
 use crate::reference::Layer;
 use crate::stored;
 use crate::table::{ipdu, join, object, set_filter};
 
-/// Both layers over one I-PDU and one object of it.
-struct Case {
+/// Both layers over one table.
+pub struct Case {
     table: Vec<u8>,
     reference: Layer,
     library: Library,
     memory: [u8; 8192],
-    area: [u8; 256],
+    pub area: [u8; 256],
 }
 
 impl Case {
-    fn new(ipdu: [u8; 16], object: [u8; 32]) -> Case {
-        let table = join(&[ipdu], &[object]);
+    fn new(ipdus: &[[u8; 16]], objects: &[[u8; 32]]) -> Case {
+        let table = join(ipdus, objects);
         let (reference, library) = (Layer::new(&table), Library::new(&table));
         Case { table, reference, library, memory: [0xA5; 8192], area: [0xA5; 256] }
     }
 
-    fn started(ipdu: [u8; 16], object: [u8; 32]) -> Case {
-        let mut case = Case::new(ipdu, object);
+    pub fn started_with(ipdus: &[[u8; 16]], objects: &[[u8; 32]]) -> Case {
+        let mut case = Case::new(ipdus, objects);
         assert_eq!(case.ask(Call::Start), (0, 0));
         case
     }
 
-    /// The answer of both layers, which also agree in the area and in what is stored.
-    fn ask(&mut self, call: Call) -> (u32, u32) {
-        let mut area = self.area;
-        let ours = self.reference.call(&call, 8192, true, &mut area);
-        let theirs = self.library.call(&self.table, &mut self.memory, &call, &mut self.area);
-        assert_eq!((theirs, self.area), (ours, area), "{call:?}");
-        if !call.refused_by(ours.number) {
-            assert_eq!(stored::difference(&self.reference, &self.memory), None, "{call:?}");
+    /// Over one I-PDU and one object of it.
+    fn started(ipdu: [u8; 16], object: [u8; 32]) -> Case {
+        Case::started_with(&[ipdu], &[object])
+    }
+
+    pub fn ask(&mut self, call: Call) -> (u32, u32) {
+        self.play(&Act::Call(call)).0
+    }
+
+    /// The answer of both layers, and the status list of a group with the bytes behind it. They
+    /// agree in these, in the area and in what is stored.
+    pub fn play(&mut self, act: &Act) -> ((u32, u32), Vec<u8>) {
+        let (before, mut area) = (self.memory, self.area);
+        let (mut s, mut t) = (act.statuses(), act.statuses());
+        let ours = act.by_reference(&mut self.reference, 8192, true, &mut area, &mut s);
+        let lent = (&mut self.memory, &mut self.area);
+        let theirs = act.by_library(&mut self.library, &self.table, lent.0, lent.1, &mut t);
+        assert_eq!((theirs, self.area, t), (ours, area, s.clone()), "{act:?}");
+        if act.refused_by(ours.number) {
+            assert_eq!(self.memory, before, "{act:?}");
+        } else {
+            assert_eq!(stored::difference(&self.reference, &self.memory), None, "{act:?}");
         }
-        (ours.number, ours.value)
+        ((ours.number, ours.value), s)
     }
 
     fn send(&mut self, value: u32) -> (u32, u32) {
@@ -133,7 +148,7 @@ fn room() {
     for (length, start, order, fits) in [(4, 18, 1, 22), (5, 13, 0, 27)] {
         for (size, answer) in [(fits, (0, 0)), (fits + 1, (5, 0))] {
             let ipdu = ipdu(1, length, 0, [0, 0, 0, 10, 0]);
-            let mut case = Case::new(ipdu, placed(1, start, size, order));
+            let mut case = Case::new(&[ipdu], &[placed(1, start, size, order)]);
             assert_eq!(case.ask(Call::Start), answer);
         }
     }

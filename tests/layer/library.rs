@@ -2,15 +2,17 @@
 //! With `--cfg own` a second copy of the reference state stands in for the library.
 
 use crate::call::Call;
+use crate::group::Group;
 use crate::table::Answer;
 
 #[cfg(not(own))]
 #[rustfmt::skip]
 mod linked {
     use super::Answer;
-    // A table or the bytes of an indication: where they start, and how many they are.
+    use crate::group::Pair;
+    // A table, the bytes of an indication or of a group: where they start, and how many they are.
     type In = *const u8;
-    // Working memory or a request area.
+    // Working memory, a request area or a status list.
     type Out = *mut u8;
     type N = usize;
 
@@ -19,6 +21,13 @@ mod linked {
         pub fn birnenschloss_stop(t: In, tn: N, m: Out, mn: N) -> Answer;
         pub fn birnenschloss_send(
             t: In, tn: N, m: Out, mn: N, area: Out, an: N, object: u32, value: u32,
+        ) -> Answer;
+        pub fn birnenschloss_send_group(
+            t: In, tn: N, m: Out, mn: N, area: Out, an: N, pairs: In, pn: N, statuses: Out, sn: N,
+        ) -> Answer;
+        pub fn birnenschloss_send_records(
+            t: In, tn: N, m: Out, mn: N, area: Out, an: N,
+            pairs: *const Pair, pn: N, statuses: Out, sn: N,
         ) -> Answer;
         pub fn birnenschloss_initialise(
             t: In, tn: N, m: Out, mn: N, object: u32, value: u32,
@@ -83,6 +92,34 @@ impl Library {
             }
         }
     }
+
+    pub fn group(
+        &mut self,
+        table: &[u8],
+        m: &mut [u8],
+        group: &Group,
+        area: &mut [u8],
+        statuses: &mut [u8],
+    ) -> Answer {
+        use crate::group::Form;
+        use linked::*;
+        let (t, tn, mn) = (table.as_ptr(), table.len(), m.len());
+        let (m, an, sn) = (m.as_mut_ptr(), area.len(), statuses.len());
+        let (a, s) = (area.as_mut_ptr(), statuses.as_mut_ptr());
+        // As above.
+        unsafe {
+            match &group.form {
+                Form::Bytes(bytes) => {
+                    let (p, pn) = (bytes.as_ptr(), bytes.len());
+                    birnenschloss_send_group(t, tn, m, mn, a, an, p, pn, s, sn)
+                }
+                Form::Records(pairs) => {
+                    let (p, pn) = (pairs.as_ptr(), pairs.len());
+                    birnenschloss_send_records(t, tn, m, mn, a, an, p, pn, s, sn)
+                }
+            }
+        }
+    }
 }
 
 /// The stand-in: reads its state from a memory in its ranges, and writes it there after every
@@ -100,11 +137,7 @@ impl Library {
     }
 
     pub fn call(&mut self, table: &[u8], m: &mut [u8], call: &Call, area: &mut [u8]) -> Answer {
-        let long = self.layer.table_right && m.len() >= 8192;
-        let in_range = long && crate::ranges::in_range(table, m);
-        if in_range {
-            crate::stored::read(&mut self.layer, m);
-        }
+        let in_range = self.read(table, m);
         let answer = self.layer.call(call, m.len(), in_range, area);
         if call.refused_by(answer.number) {
             return answer;
@@ -114,5 +147,31 @@ impl Library {
         }
         crate::stored::write(&self.layer, m);
         answer
+    }
+
+    pub fn group(
+        &mut self,
+        table: &[u8],
+        m: &mut [u8],
+        group: &Group,
+        area: &mut [u8],
+        statuses: &mut [u8],
+    ) -> Answer {
+        let in_range = self.read(table, m);
+        let answer = self.layer.group(group, m.len(), in_range, area, statuses);
+        if answer.number == 0 {
+            crate::stored::write(&self.layer, m);
+        }
+        answer
+    }
+
+    /// Reads the state, where the stored numbers are in their ranges; gives whether they are.
+    fn read(&mut self, table: &[u8], m: &[u8]) -> bool {
+        let long = self.layer.table_right && m.len() >= 8192;
+        let in_range = long && crate::ranges::in_range(table, m);
+        if in_range {
+            crate::stored::read(&mut self.layer, m);
+        }
+        in_range
     }
 }

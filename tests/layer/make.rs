@@ -224,7 +224,7 @@ fn object_number(run: &mut Run, layer: &Layer, wanted: fn(&Object) -> bool) -> u
 }
 
 /// A value for the filter of this object, or of a receiver that it sends to.
-fn value_for(run: &mut Run, layer: &Layer, object: u32) -> u32 {
+pub fn value_for(run: &mut Run, layer: &Layer, object: u32) -> u32 {
     let Some(sender) = layer.objects.get(object as usize) else {
         return word(run);
     };

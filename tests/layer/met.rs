@@ -1,5 +1,6 @@
 //! What the run has met of the document's rules; it must meet all of it.
 
+use crate::act::{Act, KINDS};
 use crate::call::Call;
 use crate::records::Ipdu;
 use crate::reference::Layer;
@@ -37,24 +38,68 @@ pub enum Event {
     StartOverZeros,
     ZerosStopped,
     ZerosOutOfRange,
+    /// Groups of no pairs and of 16, done.
+    GroupEmpty,
+    GroupSixteen,
+    /// Groups refused with 2 for one reason alone.
+    GroupTooMany,
+    GroupCutPair,
+    GroupStatusesShort,
+    GroupStatusesLong,
+    /// Groups refused for another reason.
+    GroupWrongTable,
+    GroupShortArea,
+    GroupOverStopped,
+    /// And with a reason for 2 besides.
+    GroupFiveNotTwo,
+    GroupSixNotTwo,
+    GroupRangeNotTwo,
+    GroupSevenNotTwo,
+    /// A pair with status 1 before one with 0.
+    GroupWrongPairGoesOn,
+    /// Status 1 for a receive object; in bytes for a number from 128 on; in records for one whose
+    /// low byte is a send object's number.
+    GroupReceiveObject,
+    GroupByteFrom128,
+    GroupRecordAbove255,
+    /// An object that is named again; one that before the group would have judged otherwise.
+    GroupSameObjectTwice,
+    GroupJudgedAnew,
+    /// A send object with filter 14 that passes one value of the group and drops another.
+    GroupFourteen,
+    /// An occurrence that goes from 255 to 0.
+    GroupOccurrenceWraps,
+    /// An I-PDU that a pair has requested: a later pending value is not in its slot, a later
+    /// triggered one is postponed.
+    GroupPendingAfterTriggered,
+    GroupPostponedInside,
+    GroupSeveralRequests,
+    /// A receiver inside that gets two values; one with a queue that loses one.
+    GroupReceiverTwice,
+    GroupValueLost,
 }
 use Event::*;
 
-const EVENTS: [Event; 23] = [
+const EVENTS: [Event; 49] = [
     RequestBySend, PostponedBySend, RequestByTick, PostponedMadeByTick, DelayRunOut, DeadlineRunOut,
     FiredOpenPeriodic, FiredOpenMixed, FiredWanted, ReceiveTimerRunOut, StopPeriodicWanted,
     StartRunning, StartOpen, ShortAreaSend, ShortAreaTick, ValueLost,
     DeadlineOfZero, CountdownOfZero, OverflowOfEmptyQueue, BytesBehindLength,
     StartOverZeros, ZerosStopped, ZerosOutOfRange,
+    GroupEmpty, GroupSixteen, GroupTooMany, GroupCutPair, GroupStatusesShort, GroupStatusesLong,
+    GroupWrongTable, GroupShortArea, GroupOverStopped, GroupFiveNotTwo, GroupSixNotTwo,
+    GroupRangeNotTwo, GroupSevenNotTwo, GroupWrongPairGoesOn, GroupReceiveObject,
+    GroupByteFrom128, GroupRecordAbove255, GroupSameObjectTwice, GroupJudgedAnew, GroupFourteen,
+    GroupOccurrenceWraps, GroupPendingAfterTriggered, GroupPostponedInside, GroupSeveralRequests,
+    GroupReceiverTwice, GroupValueLost,
 ];
 
-#[derive(Default)]
 pub struct Met {
     events: [u64; EVENTS.len()],
     /// How often each number was answered.
     numbers: [u64; 9],
-    /// How often each call was accepted, in the order of document 01.
-    accepted: [u64; 13],
+    /// How often each call was accepted, in the order of document 01, then groups in either form.
+    accepted: [u64; KINDS],
     /// How often each mark was read.
     marks: [u64; 4],
     /// Of each filter, how many values it dropped and passed.
@@ -63,10 +108,22 @@ pub struct Met {
     changed_numbers: [u64; 9],
     /// How often each call was made over a changed memory: done and refused where its numbers are
     /// in their ranges, and where one is not.
-    changed: [[u64; 3]; 13],
+    changed: [[u64; 3]; KINDS],
 }
 
 impl Met {
+    pub fn new() -> Met {
+        Met {
+            events: [0; EVENTS.len()],
+            numbers: [0; 9],
+            accepted: [0; KINDS],
+            marks: [0; 4],
+            judged: [[0; 2]; 15],
+            changed_numbers: [0; 9],
+            changed: [[0; 3]; KINDS],
+        }
+    }
+
     pub fn note(&mut self, event: Event, times: u64) {
         self.events[event as usize] += times;
     }
@@ -77,13 +134,21 @@ impl Met {
         }
     }
 
-    /// A call's answer, with the I-PDUs before and after it.
-    pub fn note_answer(&mut self, call: &Call, answer: Answer, before: &[Ipdu], after: &[Ipdu]) {
+    /// An answer, with the layer before and after it.
+    pub fn note_answer(&mut self, act: &Act, answer: Answer, before: &Layer, after: &Layer) {
         self.numbers[answer.number as usize] += 1;
-        if call.refused_by(answer.number) {
-            return;
+        self.accepted[act.kind()] += !act.refused_by(answer.number) as u64;
+        match act {
+            Act::Call(call) if !call.refused_by(answer.number) => {
+                self.note_done(call, answer, &before.ipdus, &after.ipdus);
+            }
+            Act::Call(_) => {}
+            Act::Group(group) => self.note_group(group, answer, before),
         }
-        self.accepted[call.kind()] += 1;
+    }
+
+    /// A call that was not refused, with the I-PDUs before and after it.
+    fn note_done(&mut self, call: &Call, answer: Answer, before: &[Ipdu], after: &[Ipdu]) {
         let some = |is: fn(&Ipdu) -> bool| before.iter().any(is) as u64;
         match call {
             Call::Start => {
@@ -131,21 +196,24 @@ impl Met {
     }
 
     /// A call over a changed memory, with the state that was stored there.
-    pub fn note_changed(&mut self, call: &Call, answer: Answer, in_range: bool, before: &Layer) {
+    pub fn note_changed(&mut self, act: &Act, answer: Answer, in_range: bool, before: &Layer) {
         self.changed_numbers[answer.number as usize] += 1;
-        let refused = call.refused_by(answer.number);
+        let refused = act.refused_by(answer.number);
         let class = if in_range { refused as usize } else { 2 };
-        self.changed[call.kind()][class] += 1;
+        self.changed[act.kind()][class] += 1;
+        if let (Act::Group(group), false) = (act, in_range) {
+            self.note_out_of_range(group);
+        }
         if !in_range || before.stopped {
             return;
         }
-        match call {
-            Call::Receive { object } | Call::Status { object } if answer.number == 4 => {
+        let tick = matches!(act, Act::Call(Call::Tick));
+        match act {
+            Act::Call(Call::Receive { object } | Call::Status { object }) if answer.number == 4 => {
                 let overflow = before.objects[*object as usize].overflow;
                 self.note(OverflowOfEmptyQueue, overflow as u64);
             }
-            Call::Send { .. } | Call::Tick if !refused => {
-                let tick = matches!(call, Call::Tick);
+            Act::Call(Call::Send { .. } | Call::Tick) | Act::Group(_) if !refused => {
                 for (k, p) in before.ipdus.iter().enumerate() {
                     let requested = answer.value >> k & 1 == 1;
                     let behind = p.bytes[p.length..].iter().any(|b| *b != 0);
@@ -168,7 +236,7 @@ impl Met {
         };
         EVENTS.iter().for_each(|e| look(format!("{e:?}"), self.events[*e as usize]));
         (0..9).for_each(|n| look(format!("answer {n}"), self.numbers[n]));
-        (0..13).for_each(|n| look(format!("call {n}"), self.accepted[n]));
+        (0..KINDS).for_each(|n| look(format!("call {n}"), self.accepted[n]));
         (0..4).for_each(|bit| look(format!("mark {}", 1 << bit), self.marks[bit]));
         // A changed memory is lent with a right table; over one in its ranges a start is done.
         for (n, times) in self.changed_numbers.iter().enumerate() {

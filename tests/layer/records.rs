@@ -151,7 +151,8 @@ pub fn unpack(places: &[usize], bytes: &[u8]) -> u32 {
 // ---- Filters ----
 
 impl Object {
-    fn judge(&self, new: u32) -> bool {
+    /// Whether the filter passes a value; changes nothing.
+    pub fn judge(&self, new: u32) -> bool {
         let old = self.old;
         match self.filter {
             0 => true,
