@@ -87,10 +87,12 @@ all-groups (c ∷ cs) e = (group-holds c (e .0), all-groups cs (e .1))
 
 pub sent-groups-hold : AllGroupsHold sentGroups
 unfolding definitions pairAt sendEach
-sent-groups-hold = all-groups sentGroups ((refl, refl) & (refl, refl) & (refl, refl) & (refl, refl) & tt)
+sent-groups-hold =
+    all-groups sentGroups ((refl, refl) & (refl, refl) & (refl, refl) & (refl, refl) & (refl, refl) & (refl, refl) & tt)
 
 pub refused-groups-hold : AllGroupsHold refusedGroups
 unfolding definitions pairAt sendEach
 refused-groups-hold =
     all-groups refusedGroups
-    ((refl, refl) & (refl, refl) & (refl, refl) & (refl, refl) & (refl, refl) & (refl, refl) & (refl, refl) & (refl, refl) & (refl, refl) & tt)
+    ((refl, refl) & (refl, refl) & (refl, refl) & (refl, refl) & (refl, refl)
+    & (refl, refl) & (refl, refl) & (refl, refl) & (refl, refl) & (refl, refl) & tt)

@@ -3,7 +3,7 @@
 use mathlib.Core.Bool.{true}
 use mathlib.Core.List.{List, [], _∷_, _++_}
 use mathlib.Core.Path.{_≡_}
-use Prim.Native.Nat.{ℕ}
+use Prim.Native.Nat.{ℕ, zero, suc}
 use lib.ListN.{replicate}
 use Rattle.memory.specs.Bytes.{bytesOf}
 use Rattle.state.specs.Layout.{memorySize}
@@ -44,8 +44,8 @@ AllGroupsHold (c ∷ cs) = GroupHolds c × AllGroupsHold cs
 -- ---- a case of the van: two send I-PDUs without delay. Object 0 is triggered, 12 bits from bit 13 on, and passes what differs from the
 -- old value; 1 is pending in the same I-PDU, the first byte; 2 is triggered in I-PDU 1 and passes the second of three; 3 receives from 1
 -- inside, with a queue of two
-abbrev pub vanCase : List ℕ
-vanCase =
+abbrev pub vanTable : List ℕ
+vanTable =
     tableOf
     (sendIpdu 0 0 0 0 10 ∷ sendIpdu 0 0 0 0 10 ∷ [])
     (objectBytes 1 0 255 13 12 0 0 0 5 0 0 0
@@ -57,14 +57,18 @@ vanCase =
 abbrev pub five : ℕ → ℕ → List ℕ
 five object value = object ∷ bytesOf 4 value
 
+abbrev repeated : ℕ → List ℕ → List ℕ
+repeated zero bytes = []
+repeated (suc n) bytes = bytes ++ repeated n bytes
+
 abbrev statusList : ℕ → List ℕ
 statusList n = replicate n 204
 
--- a group after these calls; a refused one shows that its status list and a slot stay
+-- a group that is refused with this number after these calls: its status list and slot 0 stay
 abbrev refusedAs : ℕ → List Call → Group → List Line → GroupCase
 refusedAs number before g after =
     record {
-      table = vanCase;
+      table = vanTable;
       before = before;
       group = g;
       number = number;
@@ -80,7 +84,7 @@ refusedAs number before g after =
 abbrev pub wholeCase : GroupCase
 wholeCase =
     record {
-      table = vanCase;
+      table = vanTable;
       before = start ∷ [];
       group =
           groupOf
@@ -104,7 +108,7 @@ wholeCase =
 abbrev pub recordCase : GroupCase
 recordCase =
     record {
-      table = vanCase;
+      table = vanTable;
       before = start ∷ [];
       group = groupOf (inRecords (given.pair 256 5 ∷ given.pair 0 5 ∷ given.pair 257 122 ∷ given.pair 1 122 ∷ [])) area (statusList 4);
       number = 0;
@@ -115,13 +119,41 @@ recordCase =
       after = line (receive 3) 0 122 ∷ [];
     }
 
+-- one pair of bytes: the value's four bytes are 2748, the lowest first (case 1: 00 80 57 01)
+abbrev pub valueCase : GroupCase
+valueCase =
+    record {
+      table = vanTable;
+      before = start ∷ [];
+      group = groupOf (inBytes (0 ∷ 0xBC ∷ 0x0A ∷ 0 ∷ 0 ∷ [])) area (statusList 1);
+      number = 0;
+      word = 1;
+      statuses = 0 ∷ [];
+      slots = 0 ∷ [];
+      bytes = (0x00 ∷ 0x80 ∷ 0x57 ∷ 0x01 ∷ []) ++ replicate 4 0;
+      after = [];
+    }
+
 abbrev pub sentGroups : List GroupCase
 sentGroups =
     wholeCase
     ∷ recordCase
+    ∷ valueCase
+    -- all four bytes of a value arrive inside
+    ∷ record {
+      table = vanTable;
+      before = start ∷ [];
+      group = groupOf (inBytes (1 ∷ 1 ∷ 2 ∷ 3 ∷ 4 ∷ [])) area (statusList 1);
+      number = 0;
+      word = 0;
+      statuses = 0 ∷ [];
+      slots = [];
+      bytes = [];
+      after = line (receive 3) 0 0x04030201 ∷ [];
+    }
     -- no pair; sixteen pairs
     ∷ record {
-      table = vanCase;
+      table = vanTable;
       before = start ∷ [];
       group = groupOf (inBytes []) area [];
       number = 0;
@@ -132,9 +164,9 @@ sentGroups =
       after = [];
     }
     ∷ record {
-      table = vanCase;
+      table = vanTable;
       before = start ∷ [];
-      group = groupOf (inRecords (replicate 16 (given.pair 1 77))) area (statusList 16);
+      group = groupOf (inBytes (repeated 16 (five 1 77))) area (statusList 16);
       number = 0;
       word = 0;
       statuses = replicate 16 0;
@@ -150,14 +182,15 @@ refusedGroups =
     refusedAs 2 (start ∷ []) (groupOf (inRecords (replicate 17 (given.pair 1 77))) area (statusList 17)) (line (receive 3) 4 0 ∷ [])
     ∷ refusedAs 2 (start ∷ []) (groupOf (inBytes (replicate 85 0)) area (statusList 17)) (line (receive 3) 4 0 ∷ [])
     ∷ refusedAs 2 (start ∷ []) (groupOf (inBytes (five 1 77 ++ (1 ∷ 77 ∷ []))) area (statusList 1)) (line (receive 3) 4 0 ∷ [])
-    ∷ refusedAs 2 (start ∷ []) (groupOf (inBytes (five 1 77)) area []) (line (receive 3) 4 0 ∷ [])
+    ∷ refusedAs 2 (start ∷ []) (groupOf (inRecords (given.pair 1 77 ∷ [])) area []) (line (receive 3) 4 0 ∷ [])
+    ∷ refusedAs 2 (start ∷ []) (groupOf (inBytes []) area (statusList 1)) []
     ∷ refusedAs 2 (start ∷ []) (groupOf (inBytes (five 1 77)) area (statusList 2)) (line (receive 3) 4 0 ∷ [])
     -- before that 7 for a stopped layer, 6 for the area, 6 for memory that no start wrote, 5 for the table
     ∷ refusedAs 7 (start ∷ stop ∷ []) (groupOf (inBytes (five 1 77)) area (statusList 2)) []
     ∷ refusedAs 6 (start ∷ stop ∷ []) (groupOf (inBytes (five 1 77)) (replicate 255 170) (statusList 2)) []
     ∷ refusedAs 6 [] (groupOf (inBytes (five 1 77)) area (statusList 1)) []
     ∷ record {
-      table = 0 ∷ vanCase;
+      table = 0 ∷ vanTable;
       before = [];
       group = groupOf (inBytes (five 1 77)) [] (statusList 2);
       number = 5;

@@ -1,5 +1,5 @@
--- Demand 3 (a) over lists with groups: a group follows the book as its sends do, and each action of a list is kept. Its list of single
--- calls leaves the same memory and book.
+-- Demand 3 (a) over lists with groups: a group follows the book as its sends do, and each action of a list is kept. The single calls that a
+-- list stands for leave the same memory and book.
 -- Assumes: the table holds bytes, and arguments are of the types that the calls take (`TypedAction`).
 use mathlib.Core.Bool.{Bool, true, false}
 use mathlib.Core.List.{List, [], _∷_, _++_}
@@ -12,6 +12,7 @@ use lib.ListN.{length}
 use Rattle.memory.specs.Bytes.{Bytes}
 use Rattle.memory.specs.Search.{pick}
 use Rattle.memory.proofs.Search.{picked}
+use Rattle.memory.proofs.Tests.{true-not-false}
 use Rattle.table.specs.declared.Counts.{Counts}
 use Rattle.table.specs.declared.Verdict.the-variants.{Accepted}
 use Rattle.table.specs.Check.{check}
@@ -19,7 +20,7 @@ use Rattle.calls.specs.Answers.{numberOf, valueOf}
 use Rattle.layer.specs.Step.{Call, step, run, memoryAfter}
 use Rattle.group.specs.Groups.{sent, Group, groupStep}
 use Rattle.trace.specs.Book.{Book, advance, bookAfter}
-use Rattle.trace.specs.Actions.{Action, single, group, leaves, callsOf, acceptsGroup, advanceBy, expanded, memoryAfterAll, bookAfterAll}
+use Rattle.trace.specs.Actions.{Action, single, group, leaves, groupSends, acceptsGroup, advanceBy, expanded, memoryAfterAll, bookAfterAll}
 use Rattle.trace.specs.Demand3.{AllTyped, TypedAction, ActionsTyped, frame, names, HandedOver, GroupKept, ActionKept, ActionsKept}
 use Rattle.trace.proofs.FramesInArea.{in-area-none}
 use Rattle.trace.proofs.Steps.{Follows, step-follows, list-follows}
@@ -30,20 +31,20 @@ module _ (t : List ℕ) (c : Counts) (accepted : check t ≡ Accepted c) (bt : B
   module _ (b : Book) (m : List ℕ) (f : Follows t c b m) where
     -- ---- a group
 
-    module _ (g : Group) (y : AllTyped (callsOf g)) where
+    module _ (g : Group) (y : AllTyped (groupSends g)) where
       -- its memory is that of its sends
-      pub group-memory : groupStep t g m .memory ≡ memoryAfter t (pick (acceptsGroup b g) (callsOf g) []) m
+      pub group-memory : groupStep t g m .memory ≡ memoryAfter t (pick (acceptsGroup b g) (groupSends g) []) m
       group-memory = by (group-does t c accepted bt b g m f)
         where
-          by : GroupDoes t c accepted bt b g m → groupStep t g m .memory ≡ memoryAfter t (pick (acceptsGroup b g) (callsOf g) []) m
+          by : GroupDoes t c accepted bt b g m → groupStep t g m .memory ≡ memoryAfter t (pick (acceptsGroup b g) (groupSends g) []) m
           by (sends done fits does) = rw (does, done) (sends-ran t c accepted bt (g .pairs .list) (g .area) y fits b (sent 0 m (g .area) []) f refl .memory)
           by (refuses a is off does some six none) = rw (does, off)
 
       group-follows : Follows t c (advanceBy t c b (group g)) (groupStep t g m .memory)
       group-follows = rw group-memory (by (acceptsGroup b g))
         where
-          by : (went : Bool) → Follows t c (pick went (bookAfter t c b (callsOf g)) b) (memoryAfter t (pick went (callsOf g) []) m)
-          by true = list-follows t c accepted bt (callsOf g) y b m f
+          by : (went : Bool) → Follows t c (pick went (bookAfter t c b (groupSends g)) b) (memoryAfter t (pick went (groupSends g) []) m)
+          by true = list-follows t c accepted bt (groupSends g) y b m f
           by false = f
 
       group-kept : GroupKept t c b g m (groupStep t g m)
@@ -55,14 +56,18 @@ module _ (t : List ℕ) (c : Counts) (accepted : check t ≡ Accepted c) (bt : B
               rw does
               (record {
                 judged = rw done;
-                sends = λ e. list-kept t c accepted bt (callsOf g) y b m f;
+                sends = λ e. list-kept t c accepted bt (groupSends g) y b m f;
+                statuses = λ e. x .statuses;
+                word = λ e. x .word;
                 frames = λ k e. ⊎-elim (λ z. absurd (in-area-none k (z .1 e))) (λ z. z) (x .slots k);
               })
           by (refuses a is off does some six none) =
               rw does
               (record {
                 judged = rw off (ne-eqb (numberOf a) 0 some);
-                sends = λ e. list-kept t c accepted bt (callsOf g) y b m f;
+                sends = λ e. absurd (true-not-false e off);
+                statuses = λ e. absurd (true-not-false e off);
+                word = λ e. absurd (true-not-false e off);
                 frames = λ k e. absurd (in-area-none k (rw none at e));
               })
 
@@ -104,8 +109,8 @@ module _ (t : List ℕ) (c : Counts) where
   expanded-typed [] b y = tt
   expanded-typed (single call ∷ xs) b y = (y .0, expanded-typed xs (advance t c b call) (y .1))
   expanded-typed (group g ∷ xs) b y =
-      both-typed (pick (acceptsGroup b g) (callsOf g) []) (expanded t c (advanceBy t c b (group g)) xs)
-      (picked AllTyped (acceptsGroup b g) (callsOf g) [] (λ e. y .0) (λ e. tt)) (expanded-typed xs (advanceBy t c b (group g)) (y .1))
+      both-typed (pick (acceptsGroup b g) (groupSends g) []) (expanded t c (advanceBy t c b (group g)) xs)
+      (picked AllTyped (acceptsGroup b g) (groupSends g) [] (λ e. y .0) (λ e. tt)) (expanded-typed xs (advanceBy t c b (group g)) (y .1))
 
   pub expanded-book : (xs : List Action) (b : Book) → bookAfterAll t c b xs ≡ bookAfter t c b (expanded t c b xs)
   expanded-book [] b = refl
@@ -113,9 +118,9 @@ module _ (t : List ℕ) (c : Counts) where
   expanded-book (group g ∷ xs) b =
       expanded-book xs (advanceBy t c b (group g))
       ∙ ap (λ (d : Book). bookAfter t c d (expanded t c (advanceBy t c b (group g)) xs)) (by (acceptsGroup b g))
-      ∙ sym (book-then t c (pick (acceptsGroup b g) (callsOf g) []) (expanded t c (advanceBy t c b (group g)) xs) b)
+      ∙ sym (book-then t c (pick (acceptsGroup b g) (groupSends g) []) (expanded t c (advanceBy t c b (group g)) xs) b)
     where
-      by : (went : Bool) → pick went (bookAfter t c b (callsOf g)) b ≡ bookAfter t c b (pick went (callsOf g) [])
+      by : (went : Bool) → pick went (bookAfter t c b (groupSends g)) b ≡ bookAfter t c b (pick went (groupSends g) [])
       by true = refl
       by false = refl
 
@@ -127,4 +132,4 @@ module _ (t : List ℕ) (c : Counts) where
     expanded-memory (group g ∷ xs) y b m f =
         expanded-memory xs (y .1) (advanceBy t c b (group g)) (groupStep t g m .memory) (action-follows t c accepted bt b m f (group g) (y .0))
         ∙ ap (memoryAfter t (expanded t c (advanceBy t c b (group g)) xs)) (group-memory t c accepted bt b m f g (y .0))
-        ∙ sym (memory-then t (pick (acceptsGroup b g) (callsOf g) []) (expanded t c (advanceBy t c b (group g)) xs) m)
+        ∙ sym (memory-then t (pick (acceptsGroup b g) (groupSends g) []) (expanded t c (advanceBy t c b (group g)) xs) m)

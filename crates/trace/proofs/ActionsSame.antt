@@ -24,13 +24,13 @@ use Rattle.group.specs.declared.Pair.{Pair}
 use Rattle.group.specs.Pairs.{mostPairs}
 use Rattle.group.specs.Groups.{sent, Group, wellFormed, groupStep}
 use Rattle.trace.specs.Book.{Book, advance, bookAfter}
-use Rattle.trace.specs.Actions.{Action, single, group, leaves, sendsOf, callsOf, acceptsGroup, advanceBy}
-use Rattle.trace.specs.Demand3.{AllTyped, TypedAction, ActionsTyped, frame, names, Unnamed, HandedOver, AllAlike, AllSame, SameShape}
-use Rattle.trace.specs.Demand3.{AlikeActions, alikeCalls, alikeGroups, ActionsAlike, SameGroup, SameAction, ActionsSame}
+use Rattle.trace.specs.Actions.{Action, single, group, leaves, sendsOf, groupSends, acceptsGroup, advanceBy}
+use Rattle.trace.specs.Demand3.{AllTyped, TypedAction, ActionsTyped, frame, names, Unnamed, HandedOver, numbersOf, wordsJoined, AllAlike, AllSame, SameShape}
+use Rattle.trace.specs.Demand3.{AlikeAction, alikeCalls, alikeGroups, ActionsAlike, SameGroup, SameAction, ActionsSame}
 use Rattle.trace.proofs.FramesInArea.{in-area-none}
 use Rattle.trace.proofs.Steps.{Follows}
 use Rattle.trace.proofs.Noninterference.{Step, alike-step, same-answer, lists-same, lists-end}
-use Rattle.trace.proofs.GroupSends.{numbersOf, wordsJoined, sends-ran, refusalBy, GroupDoes, sends, refuses, group-does}
+use Rattle.trace.proofs.GroupSends.{sends-ran, refusalBy, GroupDoes, sends, refuses, group-does}
 use Rattle.trace.proofs.ActionsKept.{group-memory, action-follows}
 
 -- ---- two lists of calls with the same answers
@@ -104,7 +104,7 @@ module _ (t : List ℕ) (c : Counts) (accepted : check t ≡ Accepted c) (bt : B
 
     -- ---- groups
 
-    module _ (g h : Group) (p : AllTyped (callsOf g)) (q : AllTyped (callsOf h)) (shape : SameShape g h) (a : AllAlike t c b b (callsOf g) (callsOf h)) where
+    module _ (g h : Group) (p : AllTyped (groupSends g)) (q : AllTyped (groupSends h)) (shape : SameShape g h) (a : AllAlike t c b b (groupSends g) (groupSends h)) where
       formed : wellFormed g ≡ wellFormed h
       formed =
           let many = as-many t c b b (g .pairs .list) (h .pairs .list) (g .area) (h .area) a in
@@ -113,8 +113,8 @@ module _ (t : List ℕ) (c : Counts) (accepted : check t ≡ Accepted c) (bt : B
       accepts-same : acceptsGroup b g ≡ acceptsGroup b h
       accepts-same = rw (shape .area, formed)
 
-      answers : AllSame t (callsOf g) (callsOf h) m n
-      answers = lists-same t c accepted bt (callsOf g) (callsOf h) p q b m n f e alike a
+      answers : AllSame t (groupSends g) (groupSends h) m n
+      answers = lists-same t c accepted bt (groupSends g) (groupSends h) p q b m n f e alike a
 
       outcome-same : SameGroup t (groupStep t g m) (groupStep t h n)
       outcome-same = by (group-does t c accepted bt b g m f) (group-does t c accepted bt b h n e)
@@ -123,12 +123,12 @@ module _ (t : List ℕ) (c : Counts) (accepted : check t ≡ Accepted c) (bt : B
           by (sends done fits does) (sends done′ fits′ does′) =
               let x = sends-ran t c accepted bt (g .pairs .list) (g .area) p fits b (sent 0 m (g .area) []) f refl in
               let y = sends-ran t c accepted bt (h .pairs .list) (h .area) q fits′ b (sent 0 n (h .area) []) e refl in
-              let word = x .word ∙ words-same t (callsOf g) (callsOf h) 0 m n answers ∙ sym (y .word) in
+              let word = x .word ∙ words-same t (groupSends g) (groupSends h) 0 m n answers ∙ sym (y .word) in
               rw (does, does′)
               (record {
                 number = refl;
                 word = word;
-                statuses = λ z. x .statuses ∙ numbers-same t (callsOf g) (callsOf h) m n answers ∙ sym (y .statuses);
+                statuses = λ z. x .statuses ∙ numbers-same t (groupSends g) (groupSends h) m n answers ∙ sym (y .statuses);
                 frames = λ k z.
                     ⊎-elim (λ u. absurd (in-area-none k (u .1 z)))
                     (λ hx.
@@ -150,25 +150,25 @@ module _ (t : List ℕ) (c : Counts) (accepted : check t ≡ Accepted c) (bt : B
 
       groups-step : ActionStep (group g) (group h)
       groups-step =
-          let end = lists-end t c accepted bt (callsOf g) (callsOf h) p q b m n f e alike a in
+          let end = lists-end t c accepted bt (groupSends g) (groupSends h) p q b m n f e alike a in
           record {
             same = outcome-same;
             memory =
                 ap workingMemory (group-memory t c accepted bt b m f g p)
                 ∙ both (acceptsGroup b g) (end .memory)
-                ∙ ap (λ (w : Bool). workingMemory (memoryAfter t (pick w (callsOf h) []) n)) accepts-same
+                ∙ ap (λ (w : Bool). workingMemory (memoryAfter t (pick w (groupSends h) []) n)) accepts-same
                 ∙ sym (ap workingMemory (group-memory t c accepted bt b n e h q));
             book = ap₂ (λ (w : Bool) (d : Book). pick w d b) accepts-same (end .book);
           }
         where
-          both : (w : Bool) → workingMemory (memoryAfter t (callsOf g) m) ≡ workingMemory (memoryAfter t (callsOf h) n)
-              → workingMemory (memoryAfter t (pick w (callsOf g) []) m) ≡ workingMemory (memoryAfter t (pick w (callsOf h) []) n)
+          both : (w : Bool) → workingMemory (memoryAfter t (groupSends g) m) ≡ workingMemory (memoryAfter t (groupSends h) n)
+              → workingMemory (memoryAfter t (pick w (groupSends g) []) m) ≡ workingMemory (memoryAfter t (pick w (groupSends h) []) n)
           both true z = z
           both false z = alike
 
     -- ---- actions
 
-    action-step : (x y : Action) → TypedAction x → TypedAction y → AlikeActions t c b b x y → ActionStep x y
+    action-step : (x y : Action) → TypedAction x → TypedAction y → AlikeAction t c b b x y → ActionStep x y
     action-step x y p q (alikeCalls u v ex ey a) =
         let typed-u = subst TypedAction ex p in
         let typed-v = subst TypedAction ey q in

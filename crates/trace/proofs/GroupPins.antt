@@ -4,7 +4,7 @@
 use mathlib.Core.Bool.{true, false}
 use mathlib.Core.List.{List, [], _∷_}
 use mathlib.Core.Logic.{inl, inr}
-use mathlib.Core.Path.{_≡_, refl, ap, _∙_}
+use mathlib.Core.Path.{_≡_, refl, ap, ap₂, _∙_}
 use Prim.Native.Nat.{ℕ}
 use native.Mathlib.Omega.{arith}
 use borrow.Author.Tests.{eq-eqb, eqb-true}
@@ -28,12 +28,12 @@ use Rattle.calls.specs.Calls.{wants, request, sendOf, sendIn}
 use Rattle.layer.specs.Admission.{admission, startAdmission}
 use Rattle.startup.specs.Start.{blank, prepared, started}
 use Rattle.layer.specs.Step.{start, send, step, run}
-use Rattle.group.specs.Pairs.{pair, inBytes, inRecords}
+use Rattle.group.specs.Pairs.{pair, pairAt, inBytes, inRecords}
 use Rattle.group.specs.Groups.{Group, groupOf, sendEach, groupStep}
 use Rattle.trace.specs.Book.{unopened, advance}
-use Rattle.trace.specs.Actions.{Action, single, group, callsOf}
+use Rattle.trace.specs.Actions.{Action, single, group, groupSends}
 use Rattle.trace.specs.Demand3 as claim
-use Rattle.trace.specs.Demand3.{ActionsTyped, same, areas, dropped, alikeCalls, alikeGroups, ActionsAlike}
+use Rattle.trace.specs.Demand3.{ActionsTyped, wordsJoined, same, areas, dropped, alikeCalls, alikeGroups, ActionsAlike}
 use Rattle.trace.proofs.FramesInArea.{in-area-none}
 use Rattle.trace.proofs.Refusals.{refused-group-leaves, never-6}
 use Rattle.trace.proofs.Demand3.{demand-3}
@@ -78,7 +78,7 @@ pub group-done : eqb (numberOf (groupStep table g begun .answer)) 0 ≡ true
 unfolding advance
 group-done = both .0 .1 .0 .judged
 
--- its first send asks for I-PDU 0, its second for nothing
+-- its word is that of I-PDU 0; its second send asks for nothing
 group-words : (valueOf (groupStep table g begun .answer) ≡ 1) × (valueOf (step table (send 0 3 here) (step table (send 0 2748 here) begun .memory) .answer) ≡ 0)
 unfolding
     value bytesOf part numberAt replaced bit frameBit place room number frameOf written packed unpacked owns position passes filterOf filterRight
@@ -100,11 +100,26 @@ first-bit e = both .0 .1 .0 .sends refl .0 .bits 0 e 24 (omega arith)
 pub group-frame : frameBit (claim.frame table 0 (groupStep table g begun .area)) 24 ≡ 1
 group-frame = by (both .0 .1 .0 .frames 0 asked)
   where
-    by : claim.HandedOver table 0 (claim.frame table 0 (groupStep table g begun .area)) (run table (callsOf g) begun)
+    by : claim.HandedOver table 0 (claim.frame table 0 (groupStep table g begun .area)) (run table (groupSends g) begun)
         → frameBit (claim.frame table 0 (groupStep table g begun .area)) 24 ≡ 1
     by (inl (inl z)) = absurd z
     by (inl (inr z)) = absurd (in-area-none 0 (rw (group-words .1) at (z .0)))
     by (inr z) = ap (λ (f : List ℕ). frameBit f 24) (z .1) ∙ first-bit (z .0)
+
+-- both its sends are done, and so its statuses are 0 and 0
+pub group-statuses : groupStep table g begun .statuses ≡ 0 ∷ 0 ∷ []
+unfolding value bytesOf part numberAt passes filterOf counts objectRecord advance
+group-statuses =
+    let sends = both .0 .1 .0 .sends refl in
+    let first = eqb-true (numberOf (step table (send 0 2748 here) begun .answer)) 0 (sends .0 .judged) in
+    let second = eqb-true (numberOf (step table (send 0 3 here) (step table (send 0 2748 here) begun .memory) .answer)) 0 (sends .1 .0 .judged) in
+    both .0 .1 .0 .statuses refl ∙ ap₂ (λ (a b : ℕ). a ∷ b ∷ []) first second
+
+-- its word has the bit of each send that asks
+pub group-word : valueOf (groupStep table g begun .answer)
+    ≡ wordsJoined 0 (step table (send 0 2748 here) begun ∷ step table (send 0 3 here) (step table (send 0 2748 here) begun .memory) ∷ [])
+unfolding advance
+group-word = both .0 .1 .0 .word refl
 
 -- the other group, from other memory, area and status list, has the same statuses and frame
 pub same-statuses : groupStep table g begun .statuses ≡ groupStep table h (step table start n .memory) .statuses
@@ -115,12 +130,17 @@ same-group-frame = both .1 groups-alike .1 .0 .frames 0 asked
 
 -- ---- a group with a pair cut off
 
+-- a whole pair, and a byte of another
 abbrev cut : Group
-cut = groupOf (inBytes (0 ∷ 1 ∷ [])) here (7 ∷ [])
+cut = groupOf (inBytes (0 ∷ 1 ∷ 0 ∷ 0 ∷ 0 ∷ 0 ∷ [])) here (7 ∷ [])
+
+typed-cut : ActionsTyped (group cut ∷ [])
+unfolding pairAt numberAt part value
+typed-cut = (((omega arith, none), tt), tt)
 
 pub cut-refused : eqb (numberOf (groupStep table cut begun .answer)) 0 ≡ false
 unfolding advance
-cut-refused = demand-3 table bytes (group cut ∷ []) [] (tt, tt) tt m m started-m started-m .0 .1 .0 .judged
+cut-refused = demand-3 table bytes (group cut ∷ []) [] typed-cut tt m m started-m started-m .0 .1 .0 .judged
 
 -- its status list, memory and area stay
 pub cut-leaves : (groupStep table cut begun .statuses ≡ 7 ∷ []) × (groupStep table cut begun .memory ≡ begun) × (groupStep table cut begun .area ≡ here)
@@ -130,4 +150,4 @@ cut-leaves =
 
 -- and it answers no 6
 pub cut-not-6 : numberOf (groupStep table cut begun .answer) ≡ 6 → ⊥
-cut-not-6 = never-6 table bytes (group cut ∷ []) (tt, tt) m started-m .0 refl
+cut-not-6 = never-6 table bytes (group cut ∷ []) typed-cut m started-m .0 refl

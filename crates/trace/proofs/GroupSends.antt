@@ -31,23 +31,13 @@ use Rattle.layer.specs.declared.Admission.the-variants.{Admitted, Refused}
 use Rattle.layer.specs.Admission.{workingMemory, admission, ifAdmitted}
 use Rattle.layer.specs.Step.{Call, send, describe, step, run, memoryAfter}
 use Rattle.group.specs.declared.Pair.{Pair}
-use Rattle.group.specs.Groups.{Sent, sent, withSend, sendEach, sendOne, Group, GroupOutcome, refuse, wellFormed, answered, groupStep}
+use Rattle.group.specs.Groups.{Sent, sent, withSend, sendEach, sendOne, Group, GroupOutcome, refuse, wellFormed, outcomeOf, groupStep}
 use Rattle.group.proofs.SendLeaves.{send-area-length, send-area-slot}
 use Rattle.trace.specs.Book.{Book, advance}
-use Rattle.trace.specs.Demand3.{AllTyped, frame, names, Unnamed, HandedOver}
-use Rattle.trace.specs.Actions.{sendsOf, callsOf, acceptsGroup}
+use Rattle.trace.specs.Demand3.{AllTyped, frame, names, Unnamed, HandedOver, numbersOf, wordsJoined}
+use Rattle.trace.specs.Actions.{sendsOf, groupSends, acceptsGroup}
 use Rattle.trace.proofs.SendFrames.{send-area}
 use Rattle.trace.proofs.Steps.{Follows, admissionBy, Admits, goes, stays, admits, admission-is, step-follows, step-frames}
-
--- ---- what a list of outcomes comes to
-
-abbrev pub numbersOf : List Outcome → List ℕ
-numbersOf [] = []
-numbersOf (o ∷ os) = numberOf (o .answer) ∷ numbersOf os
-
-abbrev pub wordsJoined : ℕ → List Outcome → ℕ
-wordsJoined w [] = w
-wordsJoined w (o ∷ os) = wordsJoined (bitOr w (valueOf (o .answer))) os
 
 -- a joined word names what one of the two does
 joined-names : (v w k : ℕ) → (names w k → ⊥) → names (bitOr v w) k → names v k
@@ -203,13 +193,13 @@ module _ (t : List ℕ) (c : Counts) (accepted : check t ≡ Accepted c) (bt : B
 
   -- ---- a group, refused or not as the book has it
 
-  -- the number of a refusal, by the length of the area and whether the layer is stopped
+  -- the answer of a refusal, by the length of the area and whether the layer is stopped
   abbrev pub refusalBy : Book → ℕ → Answer
   refusalBy b n = pick (leb areaSize n) (pick (b .stopped) Stopped WrongLength) WrongMemory
 
   pub data GroupDoes (b : Book) (g : Group) (m : List ℕ) : Type 0 where
     sends : acceptsGroup b g ≡ true → areaSize ≤ length (g .area)
-        → groupStep t g m ≡ answered (sendEach (sendOne t) (g .pairs .list) (sent 0 m (g .area) [])) → GroupDoes b g m
+        → groupStep t g m ≡ outcomeOf (sendEach (sendOne t) (g .pairs .list) (sent 0 m (g .area) [])) → GroupDoes b g m
     refuses : (a : Answer) → a ≡ refusalBy b (length (g .area)) → acceptsGroup b g ≡ false → groupStep t g m ≡ refuse a g m → (numberOf a ≡ 0 → ⊥)
         → (leb areaSize (length (g .area)) ≡ true → numberOf a ≡ 6 → ⊥) → valueOf a ≡ 0 → GroupDoes b g m
 

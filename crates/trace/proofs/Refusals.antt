@@ -17,6 +17,8 @@ use Rattle.table.specs.Check.{check}
 use Rattle.table.specs.Records.{counts}
 use Rattle.state.specs.Layout.{memorySize, areaSize, runningAt}
 use Rattle.state.specs.Ranges.{inRange}
+use Rattle.calls.specs.declared.Answer.{Answer}
+use Rattle.calls.specs.declared.Answer.the-variants.{WrongTable, WrongMemory, Stopped}
 use Rattle.calls.specs.Answers.{numberOf}
 use Rattle.layer.specs.declared.Admission.{Admission}
 use Rattle.layer.specs.declared.Admission.the-variants.{Admitted, Refused}
@@ -24,7 +26,7 @@ use Rattle.layer.specs.Admission.{workingMemory, admissionOf, admission, ifAdmi
 use Rattle.layer.specs.Step.{Call, start, lentBytes, longEnough, describe, admissionFor, step}
 use Rattle.group.specs.Groups.{Group, GroupOutcome, wellFormed, ifGroupAdmitted, groupStep}
 use Rattle.trace.specs.Book.{Book, opened}
-use Rattle.trace.specs.Actions.{Action, single, group, answerOf, leaves, areaFits, advanceBy}
+use Rattle.trace.specs.Actions.{Action, single, group, answerOf, leaves, asksRunning, areaFits, advanceBy}
 use Rattle.trace.specs.Demand3.{ActionsTyped, done}
 use Rattle.trace.specs.Refusals.{Unchanged, IsRefused, GroupUnchanged, Never6, NotAdmitted}
 use Rattle.trace.proofs.Shows.{shows}
@@ -79,33 +81,53 @@ never-6 t bt xs y m e =
 
 -- ---- before a start
 
--- a layer that does not run admits no call but start, whatever else memory holds
-pub stopped-refuses : (t : List ℕ) (call : Call) (m : List ℕ) → describe call .running ≡ true → runningAt (workingMemory m) ≡ 0 → NotAdmitted (step t call m)
-unfolding step admission
-stopped-refuses t call m asks off = rw asks (by (check t))
-  where
-    fits : Bool
-    fits = longEnough (describe call .lent)
+-- a refusal with 5, 6 or 7
+data Refuses (a : Admission) : Type 0 where
+  refuses : (r : Answer) → a ≡ Refused r → NotAdmitted r → Refuses a
 
-    by : (v : Verdict) → NotAdmitted (ifAdmitted (admissionOf v t m fits) m (lentBytes (describe call .lent)) (describe call .does t))
+stopped-admission : (t m : List ℕ) (fits : Bool) → runningAt (workingMemory m) ≡ 0 → Refuses (admission t m fits)
+unfolding admission
+stopped-admission t m fits off = by (check t)
+  where
+    by : (v : Verdict) → Refuses (admissionOf v t m fits)
     by (Accepted c) =
         ⊎-elim
         (λ (l : (leb memorySize (length m) && fits) ≡ true).
         ⊎-elim
-        (λ (r : inRange t c (workingMemory m) ≡ true). rw (l, r, off) (inr (inr refl)))
-        (λ (r : inRange t c (workingMemory m) ≡ false). rw (l, r) (inr (inl refl)))
+        (λ (r : inRange t c (workingMemory m) ≡ true). refuses Stopped (rw (l, r, off)) (inr (inr refl)))
+        (λ (r : inRange t c (workingMemory m) ≡ false). refuses WrongMemory (rw (l, r)) (inr (inl refl)))
         (true-or-false (inRange t c (workingMemory m))))
-        (λ (l : (leb memorySize (length m) && fits) ≡ false). rw l (inr (inl refl)))
+        (λ (l : (leb memorySize (length m) && fits) ≡ false). refuses WrongMemory (rw l) (inr (inl refl)))
         (true-or-false (leb memorySize (length m) && fits))
-    by WrongHeader = inl refl
-    by (WrongIpdu k) = inl refl
-    by (WrongObject i) = inl refl
+    by WrongHeader = refuses WrongTable refl (inl refl)
+    by (WrongIpdu k) = refuses WrongTable refl (inl refl)
+    by (WrongObject i) = refuses WrongTable refl (inl refl)
+
+call-refused : (t : List ℕ) (call : Call) (m : List ℕ) → describe call .running ≡ true → runningAt (workingMemory m) ≡ 0 → NotAdmitted (step t call m .answer)
+unfolding step
+call-refused t call m asks off = rw asks (by (stopped-admission t m (longEnough (describe call .lent)) off))
+  where
+    by : Refuses (admission t m (longEnough (describe call .lent)))
+        → NotAdmitted (ifAdmitted (admission t m (longEnough (describe call .lent))) m (lentBytes (describe call .lent)) (describe call .does t) .answer)
+    by (refuses r e is) = rw e is
+
+group-refused : (t : List ℕ) (g : Group) (m : List ℕ) → runningAt (workingMemory m) ≡ 0 → NotAdmitted (groupStep t g m .answer)
+unfolding groupStep
+group-refused t g m off = by (stopped-admission t m (leb areaSize (length (g .area))) off)
+  where
+    by : Refuses (admission t m (leb areaSize (length (g .area)))) → NotAdmitted (ifGroupAdmitted (admission t m (leb areaSize (length (g .area)))) t g m .answer)
+    by (refuses r e is) = rw e is
+
+-- a layer that does not run admits no call but start, and no group, whatever else memory holds
+pub stopped-refuses : (t : List ℕ) (x : Action) (m : List ℕ) → asksRunning x ≡ true → runningAt (workingMemory m) ≡ 0 → NotAdmitted (answerOf t x m)
+stopped-refuses t (single call) m asks off = call-refused t call m asks off
+stopped-refuses t (group g) m asks off = group-refused t g m off
 
 zeros-stopped : (n : ℕ) → runningAt (workingMemory (replicate n 0)) ≡ 0
 unfolding runningAt numberAt part value
 zeros-stopped zero = refl
 zeros-stopped (suc n) = refl
 
--- memory of zeros, of any length: every call but start is refused
-pub zeros-refuse : (t : List ℕ) (call : Call) (n : ℕ) → describe call .running ≡ true → NotAdmitted (step t call (replicate n 0))
-zeros-refuse t call n asks = stopped-refuses t call (replicate n 0) asks (zeros-stopped n)
+-- memory of zeros, of any length: every call but start and every group is refused
+pub zeros-refuse : (t : List ℕ) (x : Action) (n : ℕ) → asksRunning x ≡ true → NotAdmitted (answerOf t x (replicate n 0))
+zeros-refuse t x n asks = stopped-refuses t x (replicate n 0) asks (zeros-stopped n)

@@ -1,6 +1,6 @@
 -- Demand 2 over lists of calls: in every frame that is handed over each reading unpacks to the low bits of its latest kept value, and
 -- so it arrives at a like object of another board that the frame is indicated to.
--- Assumes: the table holds bytes, and arguments are of the types that the calls take (`Typed`).
+-- Assumes: the table holds bytes, and arguments are of the types that the calls take (`Typed`, `TypedAction`).
 use mathlib.Core.Bool.{Bool, true, false, _&&_}
 use mathlib.Core.List.{List, [], _∷_}
 use mathlib.Core.Logic.{⊎-elim}
@@ -14,6 +14,7 @@ use Rattle.memory.specs.Bytes.{Bytes}
 use Rattle.memory.specs.Search.{anyBelow}
 use Rattle.memory.proofs.Parts.{part-length, part-bytes}
 use Rattle.memory.proofs.Search.{Found, found, nowhere, there, any-false, any-some, any-true, least-at}
+use Rattle.memory.proofs.Search.{picked}
 use Rattle.memory.proofs.Tests.{and-split, eq-or-ne, lt-or-le, true-or-false, true-not-false}
 use Rattle.bits.specs.declared.Order.{Order}
 use Rattle.bits.specs.Bits.{bit, frameBit, place, written, unpacked, owns}
@@ -32,14 +33,15 @@ use Rattle.calls.proofs.Records.{object-there, ipdu-short}
 use Rattle.layer.specs.Admission.{workingMemory}
 use Rattle.layer.specs.Step.{Call, start, indication, step}
 use Rattle.trace.specs.Book.{Entry, Book, unopened, sends, lastOf, opened, advance, bookAfter, ownsIpduBit, messageBit, bookBit}
-use Rattle.trace.specs.Actions.{Action, expanded, bookAfterAll}
-use Rattle.trace.specs.Demand3.{Typed, ActionsTyped, done, wordOf, frame, names, CallKept, AllKept}
-use Rattle.trace.specs.RoundTrip.{readingIn, FramesRead, AllRead, Runs, memoryOf, ActionsRun, Takes, Arrived, Like}
+use Rattle.trace.specs.Actions.{Action, single, group, leaves, groupSends, acceptsGroup, advanceBy, bookAfterAll}
+use Rattle.trace.specs.Demand3.{Typed, ActionsTyped, done, wordOf, frame, names, CallKept, AllKept, ActionKept, ActionsKept}
+use Rattle.trace.specs.RoundTrip.{readingIn, FramesRead, AllRead, ActionRead, ActionsRead, Runs, memoryOf, ActionsRun, Takes, Arrived, Like}
 use Rattle.trace.proofs.Entries.{has, AllSent, Full, advance-full, started-full}
 use Rattle.trace.proofs.FramesInArea.{in-area-none}
 use Rattle.trace.proofs.Steps.{start-accepted, start-follows, step-follows, step-frames}
 use Rattle.trace.proofs.KeptLists.{list-kept}
 use Rattle.trace.proofs.ActionsKept.{expanded-typed, expanded-book, expanded-memory}
+use Rattle.trace.proofs.Demand3.{demand-3}
 use Rattle.trace.proofs.Receivers.{runs-follows}
 use Rattle.trace.proofs.Arrivals.{indication-arrives}
 
@@ -160,21 +162,39 @@ module _ (t : List ℕ) (c : Counts) (right : Right t c) where
     list-read calls (advance t c b call) (step t call m .memory) (advance-full t c b full call) (kept .1),
   )
 
--- every list of calls and groups that begins with an accepted start, as its single calls
-pub frames-read : (t : List ℕ) → Bytes t → (xs : List Action) → ActionsTyped xs → (m : List ℕ) → done (step t start m) ≡ true
-    → AllRead t (counts t) unopened (start ∷ expanded t (counts t) (opened t (counts t)) xs) m
-unfolding advance
-frames-read t bt xs y m e =
-    let c = counts t in
-    let a = start-accepted t m e in
-    let calls = expanded t c (opened t c) xs in
-    let f = start-follows t c (a .table) bt m (a .long) in (
-      λ k i z. absurd (in-area-none k z),
-      list-read t c (accepted-right t c (a .table)) calls (opened t c) (step t start m .memory) (started-full t c [])
-          (list-kept t c (a .table) bt calls (expanded-typed t c xs (opened t c) y) (opened t c) (step t start m .memory) f),
-    )
+  -- ---- with groups
 
--- and these leave a running layer, over the memory of the list
+  book-full : (calls : List Call) (b : Book) → Full t c (b .entries) → Full t c (bookAfter t c b calls .entries)
+  book-full [] b full = full
+  book-full (call ∷ calls) b full = book-full calls (advance t c b call) (advance-full t c b full call)
+
+  action-full : (b : Book) → Full t c (b .entries) → (x : Action) → Full t c (advanceBy t c b x .entries)
+  action-full b full (single call) = advance-full t c b full call
+  action-full b full (group g) =
+      picked (λ (d : Book). Full t c (d .entries)) (acceptsGroup b g) (bookAfter t c b (groupSends g)) b (λ e. book-full (groupSends g) b full) (λ e. full)
+
+  action-read : (b : Book) (m : List ℕ) → Full t c (b .entries) → (x : Action) → ActionKept t c b x m → ActionRead t c b x m
+  action-read b m full (single call) kept = call-read b full call (step t call m) kept
+  action-read b m full (group g) kept = ((λ e. list-read (groupSends g) b m full (kept .sends e)), kept .frames)
+
+  actions-read : (xs : List Action) (b : Book) (m : List ℕ) → Full t c (b .entries) → ActionsKept t c b xs m → ActionsRead t c b xs m
+  actions-read [] b m full kept = tt
+  actions-read (x ∷ xs) b m full kept = (
+    action-read b m full x (kept .0),
+    actions-read xs (advanceBy t c b x) (leaves t x m) (action-full b full x) (kept .1),
+  )
+
+-- every list of calls and groups that begins with an accepted start
+pub frames-read : (t : List ℕ) → Bytes t → (xs : List Action) → ActionsTyped xs → (m : List ℕ) → done (step t start m) ≡ true
+    → ActionsRead t (counts t) unopened (single start ∷ xs) m
+unfolding advance
+frames-read t bt xs y m e = (
+  λ k i z. absurd (in-area-none k z),
+  actions-read t (counts t) (accepted-right t (counts t) (start-accepted t m e .table)) xs (opened t (counts t)) (step t start m .memory)
+      (started-full t (counts t) []) (demand-3 t bt xs xs y y m m e e .0 .1),
+)
+
+-- the single calls that it stands for leave a running layer, over the memory of the list
 pub actions-run : (t : List ℕ) → Bytes t → (xs : List Action) → ActionsTyped xs → (m : List ℕ) → done (step t start m) ≡ true
     → bookAfterAll t (counts t) (opened t (counts t)) xs .stopped ≡ false → ActionsRun t xs m
 actions-run t bt xs y m e on =

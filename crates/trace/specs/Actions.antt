@@ -1,6 +1,6 @@
--- Lists of layer calls with groups in them (W-202): an action is one call, or a group. A group reads as its sends, a refused group as a
--- refused call. Assumes nothing.
-use mathlib.Core.Bool.{Bool, not, _&&_}
+-- W-202: lists whose members are single calls or groups, and the single calls that such a list stands for: of a group its sends, of a
+-- refused one none. Assumes nothing.
+use mathlib.Core.Bool.{Bool, true, not, _&&_}
 use mathlib.Core.List.{List, [], _∷_, _++_}
 use Prim.Native.Nat.{ℕ}
 use lib.Dec.{leb}
@@ -28,6 +28,11 @@ abbrev pub leaves : List ℕ → Action → List ℕ → List ℕ
 leaves t (single call) m = step t call m .memory
 leaves t (group g) m = groupStep t g m .memory
 
+-- whether the layer has to run for it
+abbrev pub asksRunning : Action → Bool
+asksRunning (single call) = describe call .running
+asksRunning (group g) = true
+
 -- its request area, where it is lent one, is long enough
 abbrev pub areaFits : Action → Bool
 areaFits (single call) = longEnough (describe call .lent)
@@ -40,8 +45,8 @@ abbrev pub sendsOf : List Pair → List ℕ → List Call
 sendsOf [] area = []
 sendsOf (p ∷ ps) area = send (p .object) (p .value) area ∷ sendsOf ps area
 
-abbrev pub callsOf : Group → List Call
-callsOf g = sendsOf (g .pairs .list) (g .area)
+abbrev pub groupSends : Group → List Call
+groupSends g = sendsOf (g .pairs .list) (g .area)
 
 -- ---- the book
 
@@ -52,13 +57,13 @@ acceptsGroup b g = leb areaSize (length (g .area)) && not (b .stopped) && wellFo
 -- a group is entered send by send; a refused one leaves the book alone
 abbrev pub advanceBy : List ℕ → Counts → Book → Action → Book
 advanceBy t c b (single call) = advance t c b call
-advanceBy t c b (group g) = pick (acceptsGroup b g) (bookAfter t c b (callsOf g)) b
+advanceBy t c b (group g) = pick (acceptsGroup b g) (bookAfter t c b (groupSends g)) b
 
 -- the single calls that a list of actions stands for; none for a refused group
 abbrev pub expanded : List ℕ → Counts → Book → List Action → List Call
 expanded t c b [] = []
 expanded t c b (single call ∷ xs) = call ∷ expanded t c (advance t c b call) xs
-expanded t c b (group g ∷ xs) = pick (acceptsGroup b g) (callsOf g) [] ++ expanded t c (advanceBy t c b (group g)) xs
+expanded t c b (group g ∷ xs) = pick (acceptsGroup b g) (groupSends g) [] ++ expanded t c (advanceBy t c b (group g)) xs
 
 -- ---- lists
 

@@ -6,6 +6,7 @@ use mathlib.Core.List.{List, [], _∷_}
 use mathlib.Core.Logic.{_⊎_}
 use mathlib.Core.Path.{_≡_}
 use Prim.Native.Nat.{ℕ, _*_, _^_, _<_}
+use lib.Bits.{bitOr}
 use lib.Dec.{eqb}
 use lib.ListN.{length}
 use Rattle.memory.specs.Bytes.{Bytes, part}
@@ -18,7 +19,7 @@ use Rattle.calls.specs.Answers.{Outcome, numberOf, valueOf}
 use Rattle.layer.specs.Step.{Call, start, send, tick, Lent, noArea, requests, lentBytes, Told, toldStart, toldStop, toldSend, toldInitialise, toldNothing, describe, step, run}
 use Rattle.group.specs.Groups.{Group, GroupOutcome, groupStep}
 use Rattle.trace.specs.Book.{Book, unopened, keeps, accepts, advance, bookBit}
-use Rattle.trace.specs.Actions.{Action, single, group, leaves, callsOf, acceptsGroup, advanceBy}
+use Rattle.trace.specs.Actions.{Action, single, group, leaves, groupSends, acceptsGroup, advanceBy}
 
 -- ---- calls and lists of them
 
@@ -38,10 +39,10 @@ abbrev pub AllTyped : List Call → Type 0
 AllTyped [] = Unit {0}
 AllTyped (call ∷ calls) = Typed call × AllTyped calls
 
--- of an action: a group is given values of 32 bits; its areas and lists may hold anything
+-- of an action: a group is given values of 32 bits; its area and status list may hold anything
 abbrev pub TypedAction : Action → Type 0
 TypedAction (single call) = Typed call
-TypedAction (group g) = AllTyped (callsOf g)
+TypedAction (group g) = AllTyped (groupSends g)
 
 abbrev pub ActionsTyped : List Action → Type 0
 ActionsTyped [] = Unit {0}
@@ -99,12 +100,23 @@ abbrev pub HandedOver : List ℕ → ℕ → List ℕ → List Outcome → Type 
 HandedOver t k f [] = ⊥
 HandedOver t k f (o ∷ os) = HandedOver t k f os ⊎ (names (valueOf (o .answer)) k × (f ≡ frame t k (o .area)) × Unnamed k os)
 
+-- the numbers that they answer, and their words joined to w
+abbrev pub numbersOf : List Outcome → List ℕ
+numbersOf [] = []
+numbersOf (o ∷ os) = numberOf (o .answer) ∷ numbersOf os
+
+abbrev pub wordsJoined : ℕ → List Outcome → ℕ
+wordsJoined w [] = w
+wordsJoined w (o ∷ os) = wordsJoined (bitOr w (valueOf (o .answer))) os
+
 -- a group, with the book before it: refused where the book says so and nowhere else; else each of its sends is kept, one after the
--- other, and each frame that it hands over is the one of a send
+-- other, its statuses and its word are theirs, and each frame that it hands over is the one of a send
 pub record GroupKept (t : List ℕ) (c : Counts) (b : Book) (g : Group) (m : List ℕ) (o : GroupOutcome) : Type 0 where
   pub judged : eqb (numberOf (o .answer)) 0 ≡ acceptsGroup b g
-  pub sends : acceptsGroup b g ≡ true → AllKept t c b (callsOf g) m
-  pub frames : (k : ℕ) → names (valueOf (o .answer)) k → HandedOver t k (frame t k (o .area)) (run t (callsOf g) m)
+  pub sends : acceptsGroup b g ≡ true → AllKept t c b (groupSends g) m
+  pub statuses : acceptsGroup b g ≡ true → o .statuses ≡ numbersOf (run t (groupSends g) m)
+  pub word : acceptsGroup b g ≡ true → valueOf (o .answer) ≡ wordsJoined 0 (run t (groupSends g) m)
+  pub frames : (k : ℕ) → names (valueOf (o .answer)) k → HandedOver t k (frame t k (o .area)) (run t (groupSends g) m)
 
 abbrev pub ActionKept : List ℕ → Counts → Book → Action → List ℕ → Type 0
 ActionKept t c b (single call) m = CallKept t c b call (step t call m)
@@ -136,22 +148,22 @@ AllAlike t c b d [] (y ∷ ys) = ⊥
 AllAlike t c b d (x ∷ xs) [] = ⊥
 AllAlike t c b d (x ∷ xs) (y ∷ ys) = Alike t c b d x y × AllAlike t c (advance t c b x) (advance t c d y) xs ys
 
--- two groups of one shape: as many bytes lent, and both or neither with a last pair that is whole
+-- two groups of one shape: areas and status lists of one length, and both or neither with a last pair that is whole
 pub record SameShape (g h : Group) : Type 0 where
   pub area : length (g .area) ≡ length (h .area)
   pub statuses : length (g .statuses) ≡ length (h .statuses)
   pub whole : g .pairs .whole ≡ h .pairs .whole
 
 -- two actions alike: calls that are, or groups of one shape whose sends are
-pub data AlikeActions (t : List ℕ) (c : Counts) (b d : Book) (x y : Action) : Type 0 where
-  alikeCalls : (p q : Call) → x ≡ single p → y ≡ single q → Alike t c b d p q → AlikeActions t c b d x y
-  alikeGroups : (g h : Group) → x ≡ group g → y ≡ group h → SameShape g h → AllAlike t c b d (callsOf g) (callsOf h) → AlikeActions t c b d x y
+pub data AlikeAction (t : List ℕ) (c : Counts) (b d : Book) (x y : Action) : Type 0 where
+  alikeCalls : (p q : Call) → x ≡ single p → y ≡ single q → Alike t c b d p q → AlikeAction t c b d x y
+  alikeGroups : (g h : Group) → x ≡ group g → y ≡ group h → SameShape g h → AllAlike t c b d (groupSends g) (groupSends h) → AlikeAction t c b d x y
 
 abbrev pub ActionsAlike : List ℕ → Counts → Book → Book → List Action → List Action → Type 0
 ActionsAlike t c b d [] [] = Unit {0}
 ActionsAlike t c b d [] (y ∷ ys) = ⊥
 ActionsAlike t c b d (x ∷ xs) [] = ⊥
-ActionsAlike t c b d (x ∷ xs) (y ∷ ys) = AlikeActions t c b d x y × ActionsAlike t c (advanceBy t c b x) (advanceBy t c d y) xs ys
+ActionsAlike t c b d (x ∷ xs) (y ∷ ys) = AlikeAction t c b d x y × ActionsAlike t c (advanceBy t c b x) (advanceBy t c d y) xs ys
 
 -- the same number, returned value, word and frames
 pub record SameAnswer (t : List ℕ) (x y : Call) (o p : Outcome) : Type 0 where

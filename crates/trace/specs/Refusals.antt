@@ -5,6 +5,7 @@ use mathlib.Core.List.{List, [], _∷_}
 use mathlib.Core.Logic.{_⊎_}
 use mathlib.Core.Path.{_≡_}
 use Prim.Native.Nat.{ℕ}
+use Rattle.calls.specs.declared.Answer.{Answer}
 use Rattle.calls.specs.Answers.{Outcome, numberOf}
 use Rattle.layer.specs.Step.{Call, receive}
 use Rattle.group.specs.Groups.{Group, GroupOutcome}
@@ -22,8 +23,8 @@ abbrev pub IsRefused : Call → Outcome → Type 0
 IsRefused call o = (numberOf (o .answer) ≡ 0 → ⊥) × (numberOf (o .answer) ≡ 3 → (i : ℕ) → call ≡ receive i → ⊥)
 
 -- the same of a group, whose status list is lent too
-pub record GroupUnchanged (m : List ℕ) (g : Group) (o : GroupOutcome) : Type 0 where
-  pub memory : o .memory ≡ m
+pub record GroupUnchanged (found : List ℕ) (g : Group) (o : GroupOutcome) : Type 0 where
+  pub memory : o .memory ≡ found
   pub area : o .area ≡ g .area
   pub statuses : o .statuses ≡ g .statuses
 
@@ -36,6 +37,6 @@ Never6 t (x ∷ xs) m = (areaFits x ≡ true → numberOf (answerOf t x m) ≡ 6
 
 -- ---- a layer that was never started does not run
 
--- refused before the call looks at its own numbers: 5 for the table, 6 for memory, area or a range, 7 for a stopped layer
-abbrev pub NotAdmitted : Outcome → Type 0
-NotAdmitted o = (numberOf (o .answer) ≡ 5) ⊎ ((numberOf (o .answer) ≡ 6) ⊎ (numberOf (o .answer) ≡ 7))
+-- refused before anything else is looked at: 5 for the table, 6 for memory, area or a range, 7 for a stopped layer
+abbrev pub NotAdmitted : Answer → Type 0
+NotAdmitted a = (numberOf a ≡ 5) ⊎ ((numberOf a ≡ 6) ⊎ (numberOf a ≡ 7))

@@ -13,12 +13,13 @@ use Rattle.state.specs.Layout.{objectState}
 use Rattle.message.specs.Objects.{object, passesFilter}
 use Rattle.queue.specs.Queues.{waiting}
 use Rattle.calls.specs.declared.Answer.the-variants.{Done}
-use Rattle.calls.specs.Answers.{Outcome}
+use Rattle.calls.specs.Answers.{Outcome, valueOf}
 use Rattle.layer.specs.Admission.{workingMemory}
-use Rattle.layer.specs.Step.{Call, start, receive, step, memoryAfter}
+use Rattle.layer.specs.Step.{Call, start, receive, step, run, memoryAfter}
+use Rattle.group.specs.Groups.{groupStep}
 use Rattle.trace.specs.Book.{Book, sends, lastOf, opened, advance, bookAfter}
-use Rattle.trace.specs.Actions.{Action, single, expanded, memoryAfterAll}
-use Rattle.trace.specs.Demand3.{AllTyped, done, wordOf, frame, names}
+use Rattle.trace.specs.Actions.{Action, single, group, leaves, groupSends, acceptsGroup, advanceBy, expanded, memoryAfterAll}
+use Rattle.trace.specs.Demand3.{AllTyped, done, wordOf, frame, names, HandedOver}
 
 -- ---- frames
 
@@ -35,6 +36,17 @@ FramesRead t c b call o =
 abbrev pub AllRead : List ℕ → Counts → Book → List Call → List ℕ → Type 0
 AllRead t c b [] m = Unit {0}
 AllRead t c b (call ∷ calls) m = FramesRead t c b call (step t call m) × AllRead t c (advance t c b call) calls (step t call m .memory)
+
+-- so it is of a group's sends, and each frame that the group hands over is one of theirs
+abbrev pub ActionRead : List ℕ → Counts → Book → Action → List ℕ → Type 0
+ActionRead t c b (single call) m = FramesRead t c b call (step t call m)
+ActionRead t c b (group g) m =
+    (acceptsGroup b g ≡ true → AllRead t c b (groupSends g) m)
+    × ((k : ℕ) → names (valueOf (groupStep t g m .answer)) k → HandedOver t k (frame t k (groupStep t g m .area)) (run t (groupSends g) m))
+
+abbrev pub ActionsRead : List ℕ → Counts → Book → List Action → List ℕ → Type 0
+ActionsRead t c b [] m = Unit {0}
+ActionsRead t c b (x ∷ xs) m = ActionRead t c b x m × ActionsRead t c (advanceBy t c b x) xs (leaves t x m)
 
 -- ---- receivers
 
