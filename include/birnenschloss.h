@@ -9,7 +9,7 @@
  *   bytes    the bytes of an indication; only read
  *   pairs    what a group sends, as bytes or as structs; only read
  *   statuses a byte for each pair of a group
- * Structs of pairs are aligned as the compiler does it; nothing else needs an alignment. Nothing is
+ * An array of birnenschloss_pair has the alignment of its type; nothing else needs one. Nothing is
  * kept between calls but in the lent memory, and no pointer is kept at all: table and memory may
  * move, if their bytes move with them.
  *
@@ -20,13 +20,14 @@
  * bytes stay as they were, and the value is 0 (birnenschloss_check gives a place with its 5). One
  * exception: a receive that answers E_COM_LIMIT is not refused. It gives the oldest value of the
  * queue, removes it there and clears the overflow. Of several reasons to refuse, the first in the
- * order 5, 6, 7, 1, 2, 8, 4, 3 is answered.
+ * order 5, 6, 7, 1, 2, 8, 4, 3 is answered; a group has 1 as a status alone.
  *
  * At the boundary. Any numbers and any contents of the lent bytes are answered, and so are bytes
  * that are too few: a table of 0 or 1 bytes by 5, a memory or an area of 0 or 1 bytes by 6. Left to
  * the caller, and undefined otherwise:
  *   - no pointer is null, also where the length is 0: for no bytes, any other pointer will do
- *   - so many bytes as the length says are there, and have been written (static storage has)
+ *   - so many bytes, or structs, as the length says are there, and have been written (static
+ *     storage has)
  *   - memory, area and statuses share no byte with each other, nor with what is only read
  */
 #ifndef BIRNENSCHLOSS_H
@@ -43,7 +44,7 @@
 #define E_COM_ID 1 /* no such object or I-PDU, or not of the kind that the call needs */
 #endif
 #ifndef E_COM_LENGTH
-#define E_COM_LENGTH 2 /* a good indication not as long as its I-PDU; a group of no right form */
+#define E_COM_LENGTH 2 /* a good indication not as long as its I-PDU; a group of wrong length */
 #endif
 #ifndef E_COM_LIMIT
 #define E_COM_LIMIT 3 /* the queue has lost a value since the last receive */
@@ -153,8 +154,9 @@ birnenschloss_answer birnenschloss_send(const uint8_t *table, size_t table_lengt
 /* Sends a group of up to 16 values, one after the other as birnenschloss_send would, with one check
  * of table, memory and area for all. A pair is 5 bytes: the number of a send object, then the
  * value, its low byte first. statuses has one byte for each pair and gets the number that its own
- * send answers, 0 or 1; a pair with 1 does not hold up the next. A frame has what was packed when
- * it was requested: for a pending object to be in it, its pair stands before the triggered one's.
+ * send answers, 0 or 1; the pairs after one with 1 are sent as well. A frame has what was packed
+ * when it was requested: for a pending object to be in it, its pair stands before the triggered
+ * one's.
  * Answers 0 with the words of all sends joined; 2 (more than 16 pairs, a last pair that is cut off,
  * or not as many statuses as pairs), 5, 6, 7. A refused group leaves the statuses too. */
 birnenschloss_answer birnenschloss_send_group(const uint8_t *table, size_t table_length,
