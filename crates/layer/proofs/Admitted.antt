@@ -28,7 +28,7 @@ use Rattle.layer.specs.declared.Admission.{Admission}
 use Rattle.layer.specs.declared.Admission.the-variants.{Admitted, Refused}
 use Rattle.layer.specs.Admission.{Open, Admits, workingMemory, admissionFront, admissionOf, admission, onWorkingMemory, ifAdmitted}
 
-refused-not : {c : Counts} (a : Answer) → Refused a ≡ Admitted c → ⊥
+pub refused-not : {c : Counts} (a : Answer) → Refused a ≡ Admitted c → ⊥
 refused-not a e = let z : _≡_ {A = ℕ} 0 1 = cc in omega arith
 
 module _ (t m : List ℕ) (fits : Bool) (bt : Bytes t) (bm : Bytes m) (c : Counts) where

@@ -9,27 +9,16 @@ use Prim.Native.Nat.{ℕ}
 use native.Mathlib.Omega.{arith}
 use borrow.Author.Tests.{eq-eqb, eqb-true}
 use lib.Dec.{eqb}
-use Rattle.memory.specs.Bytes.{value, bytesOf, part, numberAt, replaced}
+use Rattle.memory.specs.Bytes.{value, bytesOf, part, numberAt}
 use Rattle.memory.proofs.Tests.{true-not-false}
-use Rattle.bits.specs.Bits.{bit, frameBit, place, room, number, frameOf, written, packed, unpacked, owns}
-use Rattle.bits.specs.Slots.{position}
-use Rattle.filter.specs.Filters.{passes, filterOf, filterRight}
+use Rattle.bits.specs.Bits.{bit, frameBit, place, owns}
+use Rattle.filter.specs.Filters.{passes, filterOf}
 use Rattle.table.specs.Records.{counts, ipduRecord, objectRecord}
-use Rattle.table.specs.Rules.{offsetsRight, headerRight, ipduRight, references, objectRight}
-use Rattle.table.specs.Check.{shareBit, overlapsLower, check}
-use Rattle.config.specs.Decode.{ipduOf, objectOf}
-use Rattle.state.specs.Layout.{runningAt, withRunning, ipduState, withIpduState, objectState, withObjectState}
-use Rattle.state.specs.Ranges.{ipduInRange, objectInRange, inRange}
-use Rattle.message.specs.Objects.{marked, afterFilter, delivered, deliver, pack}
-use Rattle.delivery.specs.Delivery.{deliverInside}
-use Rattle.transmission.specs.Requests.{isDue, requestMade, afterRequest, copiedToArea}
 use Rattle.calls.specs.Answers.{numberOf, valueOf}
-use Rattle.calls.specs.Calls.{wants, request, sendOf, sendIn}
-use Rattle.layer.specs.Admission.{admission, startAdmission}
-use Rattle.startup.specs.Start.{blank, prepared, started}
 use Rattle.layer.specs.Step.{start, send, step, run}
 use Rattle.group.specs.Pairs.{pair, pairAt, inBytes, inRecords}
 use Rattle.group.specs.Groups.{Group, groupOf, sendEach, groupStep}
+use Rattle.cases.proofs.Definitions.{definitions}
 use Rattle.trace.specs.Book.{unopened, advance}
 use Rattle.trace.specs.Actions.{Action, single, group, groupSends}
 use Rattle.trace.specs.Demand3 as claim
@@ -80,11 +69,7 @@ group-done = both .0 .1 .0 .judged
 
 -- its word is that of I-PDU 0; its second send asks for nothing
 group-words : (valueOf (groupStep table g begun .answer) ≡ 1) × (valueOf (step table (send 0 3 here) (step table (send 0 2748 here) begun .memory) .answer) ≡ 0)
-unfolding
-    value bytesOf part numberAt replaced bit frameBit place room number frameOf written packed unpacked owns position passes filterOf filterRight
-    counts ipduRecord objectRecord offsetsRight headerRight ipduRight references objectRight shareBit overlapsLower check ipduOf objectOf
-    runningAt withRunning ipduState withIpduState objectState withObjectState ipduInRange objectInRange inRange marked afterFilter delivered deliver pack
-    deliverInside isDue requestMade afterRequest copiedToArea wants request sendOf sendIn admission startAdmission blank prepared started step sendEach groupStep
+unfolding definitions sendEach groupStep
 group-words = (refl, refl)
 
 asked : claim.names (valueOf (groupStep table g begun .answer)) 0
