@@ -4,3 +4,4 @@ pub mod Ticks
 pub mod SlotRows
 pub mod SendParts
 pub mod ReadyKept
+pub mod CountsKept

@@ -11,6 +11,7 @@ use lib.Dec.{ltb, eqb}
 use lib.ListN.{length}
 use Rattle.memory.specs.Bytes.{Bytes, replaced}
 use Rattle.memory.specs.Search.{pick}
+use Rattle.filter.specs.Filters.{CountFits}
 use Rattle.table.specs.declared.Counts.{Counts}
 use Rattle.config.specs.declared.Ipdu.{Ipdu}
 use Rattle.config.specs.declared.Object.{Object}
@@ -28,7 +29,8 @@ use Rattle.message.specs.Objects.{object, Placed, markSent, markSendError, mark
 use Rattle.queue.specs.Queues.{Held, oldest, dequeue}
 use Rattle.delivery.specs.Delivery.{deliverInside, deliverFrame, markObjects}
 use Rattle.message.proofs.ObjectSteps.{placed-after}
-use Rattle.message.proofs.ObjectsInRange.{right-start, ready-held, decoded-placed}
+use Rattle.message.proofs.ObjectsInRange.{right-start, ready-held, decoded-count, decoded-placed}
+use Rattle.delivery.proofs.DeliveriesInRange.{ready-inside}
 use Rattle.transmission.specs.Requests.{ipdu, isDue, afterRequest, copiedToArea, confirmed, timerSet}
 use Rattle.calls.specs.declared.Answer.{Answer}
 use Rattle.calls.specs.declared.Answer.the-variants.{Done, WrongId, WrongLength, NoMessage, NotRequested}
@@ -86,6 +88,13 @@ module _ (t : List ℕ) (c : Counts) (kind i : ℕ) (found : Bool) (e : found �
     pub found-placed-after : (n q : List ℕ) (o : Object) → length n ≡ length m → length q ≡ length n → o ≡ object t c i → Placed o q
     found-placed-after n q o first long same = placed-after o m q (decoded-placed t c m ready i found-object o same) (long ∙ first)
 
+    -- after internal delivery the object's count is in its range
+    pub found-count : (n : List ℕ) (v : ℕ) (o : Object) → v < 2 ^ 32 → n ≡ deliverInside t c i v m → o ≡ object t c i
+        → CountFits (o .filter) (objectState n i .occurrence)
+    unfolding deliverInside
+    found-count n v o small inside same =
+        decoded-count t c n (rw inside (ready-inside t c i v (c .objects) small (omega arith) m ready)) i found-object o same
+
     pub found-has-ipdu : (o : Object) → o ≡ object t c i → HasIpdu t o
     found-has-ipdu o same = rw same (has-ipdu t c m ready i found-object)
 
@@ -129,7 +138,7 @@ module _ (depth i : ℕ) (m : List ℕ) (s : ObjectState) (row : s ≡ objectSta
 
 module _ (t : List ℕ) (c : Counts) (i v : ℕ) (area m n q : List ℕ) (found passed : Bool) (o : Object)
     (e : found ≡ isObject t c sending i) (there : not found ≡ false) (same : o ≡ object t c i) (inside : n ≡ deliverInside t c i v m)
-    (judge : passed ≡ passesFilter o v (objectState n i)) (row : q ≡ withObjectState n i (afterFilter passed v (objectState n i))) where
+    (judge : passed ≡ passesFilter o v (objectState n i)) (row : q ≡ withObjectState n i (afterFilter passed o v (objectState n i))) where
   pub send-dropped : not passed ≡ true → outcome (Done 0) q area ≡ sendIn t c i v area m
   unfolding sendIn sendOf
   send-dropped failed = rw (is-true e there, ← same, ← inside, ← judge, ← row, not-true passed failed)

@@ -96,13 +96,13 @@ module _ (t : List ℕ) (c : Counts) where
     ready-initialise-as i v small h Send =
         let s = withOld v (objectState m i) in
         ready-pack t c (withObjectState m i s)
-        (ready-object t c m ready i h s (kept-old (objectRecord t (c .ipdus) i .depth) (depths t c i) v (objectState m i) small (ready-kept t c m ready i h))) i h v
+        (ready-object t c m ready i h s (kept-old (objectRecord t (c .ipdus) i) (depths t c i) v (objectState m i) small (ready-kept t c m ready i h))) i h v
     ready-initialise-as i v small h Receive =
         let s = withQueue 0 0 0 (objectState m i) in
         ready-object t c m ready i h (withOld v (withValue v s))
-        (kept-old (objectRecord t (c .ipdus) i .depth) (depths t c i) v (withValue v s) small
-        (kept-value (objectRecord t (c .ipdus) i .depth) (depths t c i) v s small
-        (kept-queue (objectRecord t (c .ipdus) i .depth) (depths t c i) 0 0 0 (objectState m i) (omega arith) (omega arith) (omega arith) (ready-kept t c m ready i h))))
+        (kept-old (objectRecord t (c .ipdus) i) (depths t c i) v (withValue v s) small
+        (kept-value (objectRecord t (c .ipdus) i) (depths t c i) v s small
+        (kept-queue (objectRecord t (c .ipdus) i) (depths t c i) 0 0 0 (objectState m i) (omega arith) (omega arith) (omega arith) (ready-kept t c m ready i h))))
 
     pub ready-initialise : (i v : ℕ) → v < 2 ^ 32 → Ready t c (initialiseIn t c i v m .memory)
     unfolding initialiseIn initialise
@@ -120,7 +120,7 @@ module _ (t : List ℕ) (c : Counts) where
         let deep = eqb-false depth 0 some in
         let low = around-lt depth (objectState m i .head + 1) (omega (arith, deep, kept .head)) in
         ready-object t c m ready i h (dequeued depth (objectState m i))
-        (kept-queue depth (depths t c i) 0 (around depth (objectState m i .head + 1)) (objectState m i .count - 1) (objectState m i)
+        (kept-queue (objectRecord t (c .ipdus) i) (depths t c i) 0 (around depth (objectState m i .head + 1)) (objectState m i .count - 1) (objectState m i)
         (omega arith) (omega (arith, kept .count)) (omega (arith, low)) kept)
 
     pub ready-receive : (i : ℕ) → Ready t c (receiveIn t c i m .memory)
@@ -147,7 +147,7 @@ module _ (t : List ℕ) (c : Counts) where
         (λ e.
         let h = ltb-true i (c .objects) e in
         ready-object t c m ready i h (withMarks 0 (objectState m i))
-        (kept-marks (objectRecord t (c .ipdus) i .depth) (depths t c i) 0 (objectState m i) (omega arith) (ready-kept t c m ready i h)))
+        (kept-marks (objectRecord t (c .ipdus) i) (depths t c i) 0 (objectState m i) (omega arith) (ready-kept t c m ready i h)))
         ready
 
     -- ---- periods, indication, confirm

@@ -56,16 +56,16 @@ module _ (t : List ℕ) (c : Counts) (m : List ℕ) (ready : Ready t c m) (i : �
   judge = passesFilter (object t c i) v (objectState (deliverInside t c i v m) i)
 
   abbrev pub after : List ℕ
-  after = withObjectState inner i (afterFilter judge v (objectState inner i))
+  after = withObjectState inner i (afterFilter judge (object t c i) v (objectState inner i))
 
   pub inner-ready : Ready t c (deliverInside t c i v m)
   unfolding deliverInside
   inner-ready = ready-inside t c i v (c .objects) small (omega arith) m ready
 
-  pub after-ready : Ready t c (withObjectState inner i (afterFilter judge v (objectState inner i)))
+  pub after-ready : Ready t c (withObjectState inner i (afterFilter judge (object t c i) v (objectState inner i)))
   after-ready =
-      ready-object t c inner inner-ready i here (afterFilter judge v (objectState inner i))
-      (kept-after-filter (objectRecord t (c .ipdus) i .depth) (depths t c i) judge v (objectState inner i) small (ready-kept t c inner inner-ready i here))
+      ready-object t c inner inner-ready i here (afterFilter judge (object t c i) v (objectState inner i))
+      (kept-after-filter (objectRecord t (c .ipdus) i) (depths t c i) judge v (objectState inner i) small (ready-kept t c inner inner-ready i here))
 
   pub sent-as : (b : Bool) → judge ≡ b
       → sendIn t c i v area m ≡ pick b (request t (object t c i) area (pack (object t c i) v after)) (outcome (Done 0) after area)

@@ -78,7 +78,7 @@ ifPassed passed t o v area m = pick passed (request t o area (pack o v m)) (outc
 abbrev pub filterSend : List ℕ → Object → ℕ → ℕ → List ℕ → List ℕ → Outcome
 filterSend t o i v area m =
     ifPassed (passesFilter o v (objectState m i)) t o v area
-    (withObjectState m i (afterFilter (passesFilter o v (objectState m i)) v (objectState m i)))
+    (withObjectState m i (afterFilter (passesFilter o v (objectState m i)) o v (objectState m i)))
 
 unfoldable pub sendOf : List ℕ → Counts → ℕ → ℕ → List ℕ → List ℕ → Outcome
 sendOf t c i v area m = filterSend t (object t c i) i v area (deliverInside t c i v m)

@@ -3,7 +3,7 @@
 use Rattle.memory.specs.Bytes.{value, bytesOf, part, numberAt, replaced}
 use Rattle.bits.specs.Bits.{bit, frameBit, place, room, number, frameOf, written, packed, unpacked, owns}
 use Rattle.bits.specs.Slots.{position}
-use Rattle.filter.specs.Filters.{passes, filterOf, filterRight}
+use Rattle.filter.specs.Filters.{passes, greatestCount, nextCount, filterOf, filterRight}
 use Rattle.table.specs.Records.{counts, ipduRecord, objectRecord}
 use Rattle.table.specs.Rules.{offsetsRight, headerRight, ipduRight, references, objectRight}
 use Rattle.table.specs.Check.{shareBit, overlapsLower, check}
@@ -27,7 +27,7 @@ unfolding value bytesOf part numberAt replaced bit frameBit place room number fr
 bitDefinitions = tt
 
 unfoldable pub checkDefinitions : Unit {0}
-unfolding passes filterOf filterRight counts ipduRecord objectRecord offsetsRight headerRight ipduRight references objectRight shareBit overlapsLower check ipduOf objectOf
+unfolding passes greatestCount nextCount filterOf filterRight counts ipduRecord objectRecord offsetsRight headerRight ipduRight references objectRight shareBit overlapsLower check ipduOf objectOf
 checkDefinitions = tt
 
 unfoldable pub stateDefinitions : Unit {0}

@@ -5,7 +5,6 @@ use Prim.Native.Nat.{ℕ}
 use lib.Dec.{ltb, eqb}
 use Rattle.memory.specs.Search.{pick}
 use Rattle.bits.specs.Slots.{position}
-use Rattle.filter.specs.Filters.{filterOf}
 use Rattle.config.specs.declared.Direction.{Direction}
 use Rattle.config.specs.declared.Direction.the-variants.{Send, Receive}
 use Rattle.config.specs.declared.Mode.{Mode}
@@ -19,7 +18,7 @@ use Rattle.table.specs.declared.ObjectRecord.{ObjectRecord}
 use Rattle.table.specs.declared.Verdict.{Verdict}
 use Rattle.table.specs.declared.Verdict.the-variants.{Accepted, WrongHeader, WrongIpdu, WrongObject}
 use Rattle.table.specs.Records.{ipduRecord}
-use Rattle.table.specs.Rules.{orderOf}
+use Rattle.table.specs.Rules.{orderOf, recordFilter}
 use Rattle.table.specs.Check.{check}
 
 -- direction and kind: 1 send, 2 receive
@@ -59,7 +58,7 @@ objectOf r =
       size = record { 0 = r .size };
       transfer = transferOf (r .transfer);
       depth = r .depth;
-      filter = filterOf (r .filter) (r .first) (r .second);
+      filter = recordFilter r;
       initial = r .initial;
     }
 

@@ -1,6 +1,6 @@
 -- What deliveries by rising number leave in the row of an object, in it or not, and in the bytes of the I-PDUs.
 -- Assumes nothing.
-use mathlib.Core.Bool.{Bool, true}
+use mathlib.Core.Bool.{Bool, true, false}
 use mathlib.Core.List.{List}
 use mathlib.Core.Path.{_≡_, refl, sym, ap, _∙_}
 use Prim.Native.Nat.{ℕ, _^_, _≤_, _<_}
@@ -64,10 +64,16 @@ module _ (t : List ℕ) (c : Counts) (m : List ℕ) (ready : Ready t c m) (test 
       fold-view (λ (l : List ℕ). objectState l j) j (deliverTurn t c test value) m
       (λ i b. other-turn j low i (omega (arith, b, low)) (λ e. absurd (omega (arith, b, e))))
 
+  -- the row of an object that has not the test
+  pub row-apart : (j : ℕ) → j < c .objects → test j ≡ false → objectState (fold (c .objects) (deliverTurn t c test value) m) j ≡ objectState m j
+  row-apart j low no-j =
+      fold-at (λ (l : List ℕ). objectState l j) (c .objects) (deliverTurn t c test value) m j low (other-turn j low)
+      ∙ rw no-j (row-before j low)
+
   -- the row of an object that has the test
   pub row-after : (j : ℕ) → j < c .objects → test j ≡ true → (v : ℕ) → v ≡ value j (fold j (deliverTurn t c test value) m)
       → objectState (fold (c .objects) (deliverTurn t c test value) m) j
-      ≡ delivered (passesFilter (object t c j) v (objectState m j)) (object t c j .depth) v (objectState m j)
+      ≡ delivered (passesFilter (object t c j) v (objectState m j)) (object t c j) v (objectState m j)
   row-after j low yes-j v e =
       fold-at (λ (l : List ℕ). objectState l j) (c .objects) (deliverTurn t c test value) m j low (other-turn j low)
       ∙ here
@@ -79,27 +85,34 @@ module _ (t : List ℕ) (c : Counts) (m : List ℕ) (ready : Ready t c m) (test 
       r = turns-ready j (omega (arith, low))
 
       here : objectState (deliverTurn t c test value j (fold j (deliverTurn t c test value) m)) j
-          ≡ delivered (passesFilter (object t c j) v (objectState m j)) (object t c j .depth) v (objectState m j)
+          ≡ delivered (passesFilter (object t c j) v (objectState m j)) (object t c j) v (objectState m j)
       here =
           rw (yes-j, ← e)
           (deliver-row t c (fold j (deliverTurn t c test value) m) r j low v (rw e (small j low (fold j (deliverTurn t c test value) m) r))
-          ∙ ap (λ (s : ObjectState). delivered (passesFilter (object t c j) v s) (object t c j .depth) v s) (row-before j low))
+          ∙ ap (λ (s : ObjectState). delivered (passesFilter (object t c j) v s) (object t c j) v s) (row-before j low))
 
 -- internal delivery passes the whole value
 pub inside-row : (t : List ℕ) (c : Counts) (m : List ℕ) → Ready t c m → (sender v j : ℕ) → v < 2 ^ 32 → j < c .objects
     → objectRecord t (c .ipdus) j .sender ≡ sender
     → objectState (deliverInside t c sender v m) j
-    ≡ delivered (passesFilter (object t c j) v (objectState m j)) (object t c j .depth) v (objectState m j)
+    ≡ delivered (passesFilter (object t c j) v (objectState m j)) (object t c j) v (objectState m j)
 unfolding deliverInside
 inside-row t c m ready sender v j small low e =
     row-after t c m ready (λ i. eqb (objectRecord t (c .ipdus) i .sender) sender) (λ i l. v) (λ i b l r. small) j low
     (eq-eqb (objectRecord t (c .ipdus) j .sender) sender e) v refl
 
+-- and nothing to an object of another sender
+pub inside-apart : (t : List ℕ) (c : Counts) (m : List ℕ) → Ready t c m → (sender v j : ℕ) → v < 2 ^ 32 → j < c .objects
+    → eqb (objectRecord t (c .ipdus) j .sender) sender ≡ false → objectState (deliverInside t c sender v m) j ≡ objectState m j
+unfolding deliverInside
+inside-apart t c m ready sender v j small =
+    row-apart t c m ready (λ i. eqb (objectRecord t (c .ipdus) i .sender) sender) (λ i l. v) (λ i b l r. small) j
+
 -- an object of an I-PDU gets its bits of it
 pub frame-row : (t : List ℕ) (c : Counts) (m : List ℕ) → Ready t c m → (k j : ℕ) → k < mostIpdus → j < c .objects
     → objectRecord t (c .ipdus) j .ipdu ≡ k
     → objectState (deliverFrame t c k m) j
-    ≡ delivered (passesFilter (object t c j) (unpack (object t c j) m) (objectState m j)) (object t c j .depth) (unpack (object t c j) m) (objectState m j)
+    ≡ delivered (passesFilter (object t c j) (unpack (object t c j) m) (objectState m j)) (object t c j) (unpack (object t c j) m) (objectState m j)
 unfolding deliverFrame unpack objectOf
 frame-row t c m ready k j few low e =
     row-after t c m ready (λ i. eqb (objectRecord t (c .ipdus) i .ipdu) k) (λ i l. unpack (object t c i) l) (λ i b l r. unpack-lt t c l r i b) j low
@@ -111,3 +124,10 @@ frame-row t c m ready k j few low e =
         ap (λ (f : List ℕ). unpacked (object t c j .order) (startBit (object t c j)) (object t c j .size .0) f)
         (sym (turns-slot t c m ready (λ i. eqb (objectRecord t (c .ipdus) i .ipdu) k) (λ i l. unpack (object t c i) l) (λ i b l r. unpack-lt t c l r i b) j (omega (arith, low))
         (objectRecord t (c .ipdus) j .ipdu) (omega (arith, e, few))))
+
+-- and an object of another I-PDU gets nothing
+pub frame-apart : (t : List ℕ) (c : Counts) (m : List ℕ) → Ready t c m → (k j : ℕ) → j < c .objects
+    → eqb (objectRecord t (c .ipdus) j .ipdu) k ≡ false → objectState (deliverFrame t c k m) j ≡ objectState m j
+unfolding deliverFrame
+frame-apart t c m ready k =
+    row-apart t c m ready (λ i. eqb (objectRecord t (c .ipdus) i .ipdu) k) (λ i l. unpack (object t c i) l) (λ i b l r. unpack-lt t c l r i b)

@@ -45,5 +45,5 @@ module _ (t : List ℕ) (c : Counts) where
           picked (Ready t c) (eqb (objectRecord t (c .ipdus) i .ipdu) k) (withObjectState m i (marked mark (objectState m i))) m
           (λ e.
           ready-object t c m ready i below (marked mark (objectState m i))
-          (kept-marked (objectRecord t (c .ipdus) i .depth) (depths t c i) mark (objectState m i) low (ready-kept t c m ready i below)))
+          (kept-marked (objectRecord t (c .ipdus) i) (depths t c i) mark (objectState m i) low (ready-kept t c m ready i below)))
           (λ e. ready)

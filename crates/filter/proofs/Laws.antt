@@ -1,42 +1,70 @@
 -- Laws of filters that callers cite.
 -- Assumes nothing.
-use mathlib.Core.Bool.{true, not, _&&_}
+use mathlib.Core.Bool.{true, false, not, _&&_}
 use mathlib.Core.Logic.{⊎-elim}
 use mathlib.Core.Path.{_≡_, refl, sym}
-use Prim.Native.Nat.{ℕ, _≤_, _<_}
+use Prim.Native.Nat.{ℕ, zero, suc, _-_, _%_, _≤_, _<_, zero-le}
+use native.Mathlib.Nat.{mod-eq-of-lt}
 use native.Mathlib.Omega.{arith}
-use borrow.Author.Tests.{eqb-true, leb-true, le-leb, lt-leb, not-false}
+use borrow.Author.Tests.{eqb-true, leb-true, ltb-true, le-leb, lt-leb, not-false}
 use lib.Dec.{leb, ltb, eqb}
 use Rattle.memory.proofs.Search.{any-false}
-use Rattle.memory.proofs.Tests.{and-split, lt-or-le, eq-or-ne}
+use Rattle.memory.proofs.Tests.{and-split, true-or-false, lt-or-le, eq-or-ne}
 use Rattle.filter.specs.declared.Filter.{Filter}
 use Rattle.filter.specs.declared.Filter.the-variants.{Always, Never, MaskedNewEqualsX, MaskedNewDiffersX, NewIsEqual, NewIsDifferent, MaskedNewEqualsMaskedOld}
 use Rattle.filter.specs.declared.Filter.the-variants.{MaskedNewDiffersMaskedOld, NewIsWithin, NewIsOutside, NewIsGreater, NewIsLessOrEqual, NewIsLess}
 use Rattle.filter.specs.declared.Filter.the-variants.{NewIsGreaterOrEqual, OneEveryN}
-use Rattle.filter.specs.Filters.{HasPeriod, constants, filterOf, filterRight}
+use Rattle.filter.specs.Filters.{passes, greatestCount, nextCount, CountFits, constants, filterOf, filterRight}
 
-constants-period : (f : Filter) (c d : ℕ) → constants f c d ≡ true → HasPeriod f
-constants-period Always c d e = tt
-constants-period Never c d e = tt
-constants-period (MaskedNewEqualsX mask x) c d e = tt
-constants-period (MaskedNewDiffersX mask x) c d e = tt
-constants-period NewIsEqual c d e = tt
-constants-period NewIsDifferent c d e = tt
-constants-period (MaskedNewEqualsMaskedOld mask) c d e = tt
-constants-period (MaskedNewDiffersMaskedOld mask) c d e = tt
-constants-period (NewIsWithin min max) c d e = tt
-constants-period (NewIsOutside min max) c d e = tt
-constants-period NewIsGreater c d e = tt
-constants-period NewIsLessOrEqual c d e = tt
-constants-period NewIsLess c d e = tt
-constants-period NewIsGreaterOrEqual c d e = tt
-constants-period (OneEveryN period offset) c d e =
-    leb-true 1 period (and-split _ (leb period 255) (and-split (leb 1 period && leb period 255) (ltb offset period) e .0) .0)
+-- ---- the count
 
--- the filter of a right record can be asked
-pub right-has-period : (number c d : ℕ) → filterRight number c d ≡ true → HasPeriod (filterOf number c d)
+pub next-low : (f : Filter) (n : ℕ) → nextCount f n ≤ greatestCount f
+unfolding nextCount
+next-low f n =
+    ⊎-elim
+    (λ (e : ltb n (greatestCount f) ≡ true). rw e (omega (arith, ltb-true n (greatestCount f) e)))
+    (λ (e : ltb n (greatestCount f) ≡ false). rw e zero-le)
+    (true-or-false (ltb n (greatestCount f)))
+
+constants-count : (f : Filter) (c d : ℕ) → constants f c d ≡ true → greatestCount f < 256
+unfolding greatestCount
+constants-count Always c d e = omega arith
+constants-count Never c d e = omega arith
+constants-count (MaskedNewEqualsX mask x) c d e = omega arith
+constants-count (MaskedNewDiffersX mask x) c d e = omega arith
+constants-count NewIsEqual c d e = omega arith
+constants-count NewIsDifferent c d e = omega arith
+constants-count (MaskedNewEqualsMaskedOld mask) c d e = omega arith
+constants-count (MaskedNewDiffersMaskedOld mask) c d e = omega arith
+constants-count (NewIsWithin min max) c d e = omega arith
+constants-count (NewIsOutside min max) c d e = omega arith
+constants-count NewIsGreater c d e = omega arith
+constants-count NewIsLessOrEqual c d e = omega arith
+constants-count NewIsLess c d e = omega arith
+constants-count NewIsGreaterOrEqual c d e = omega arith
+constants-count (OneEveryN period offset) c d e =
+    let most = leb-true period 255 (and-split (leb 1 period) (leb period 255) (and-split (leb 1 period && leb period 255) (ltb offset period) e .0) .1) in
+    omega (arith, most)
+
+-- a byte holds each count of a right record
+pub right-count : (number c d : ℕ) → filterRight number c d ≡ true → greatestCount (filterOf number c d) < 256
 unfolding filterRight
-right-has-period number c d e = constants-period (filterOf number c d) c d (and-split (leb number 14) _ e .1)
+right-count number c d e = constants-count (filterOf number c d) c d (and-split (leb number 14) _ e .1)
+
+-- 0 is in every range
+pub zero-in-range : (n greatest : ℕ) → n ≡ 0 → true ≡ leb n greatest
+zero-in-range n greatest e = sym (le-leb n greatest (omega (arith, e)))
+
+-- a count in its range is below the period, and so its own remainder
+in-turn : (p d n : ℕ) → n ≤ p - 1 → eqb n d ≡ eqb (n % p) d
+in-turn zero d n h = let e : n ≡ 0 = omega (arith, h) in rw e
+in-turn (suc p) d n h = let below : n < suc p = omega (arith, h) in rw (mod-eq-of-lt below)
+
+pub every-passes : (f : Filter) (p d new old n : ℕ) → f ≡ OneEveryN p d → CountFits f n → eqb n d ≡ passes f new old n
+unfolding passes greatestCount
+every-passes f p d new old n e fits = let low : n ≤ p - 1 = rw e at (fits .low) in rw e (in-turn p d n low)
+
+-- ---- the constants
 
 -- with both constants zero every filter but the one with a period is right
 pub no-constants : (number : ℕ) → leb number 13 ≡ filterRight number 0 0

@@ -1,17 +1,18 @@
--- Document 01, "Filters": the filters by number, what passes, and the rules for a filter's constants in a table.
--- Assumes nothing.
+-- Document 01, "Filters", and W-203: the filters by number, what passes, how the count goes on, and the rules for a filter's constants in
+-- a table. Assumes nothing.
 use mathlib.Core.Bool.{Bool, true, false, not, _&&_}
 use mathlib.Core.List.{List, [], _∷_}
-use Prim.Native.Nat.{ℕ, _+_, _%_, _<_}
+use Prim.Native.Nat.{ℕ, _+_, _-_, _%_, _≤_, _<_}
 use lib.Bits.{bitAnd}
 use lib.Dec.{leb, ltb, eqb}
 use lib.ListN.{getD}
+use Rattle.memory.specs.Search.{pick}
 use Rattle.filter.specs.declared.Filter.{Filter}
 use Rattle.filter.specs.declared.Filter.the-variants.{Always, Never, MaskedNewEqualsX, MaskedNewDiffersX, NewIsEqual, NewIsDifferent, MaskedNewEqualsMaskedOld}
 use Rattle.filter.specs.declared.Filter.the-variants.{MaskedNewDiffersMaskedOld, NewIsWithin, NewIsOutside, NewIsGreater, NewIsLessOrEqual, NewIsLess}
 use Rattle.filter.specs.declared.Filter.the-variants.{NewIsGreaterOrEqual, OneEveryN}
 
--- whether `new` passes, given old and the occurrence
+-- whether `new` passes, given old and the occurrence n
 unfoldable pub passes : Filter → ℕ → ℕ → ℕ → Bool
 passes Always new old n = true
 passes Never new old n = false
@@ -29,27 +30,34 @@ passes NewIsLess new old n = ltb new old
 passes NewIsGreaterOrEqual new old n = leb old new
 passes (OneEveryN period offset) new old n = eqb (n % period) offset
 
--- the occurrence after one more filtering, of which there are 256
-abbrev pub nextOccurrence : ℕ → ℕ
-nextOccurrence n = (n + 1) % 256
+-- ---- W-203: the count of filterings runs from 0 to the period less one and returns to 0; with another filter it stays 0
 
--- a period is at least 1
-abbrev pub HasPeriod : Filter → Type 0
-HasPeriod Always = Unit {0}
-HasPeriod Never = Unit {0}
-HasPeriod (MaskedNewEqualsX mask x) = Unit {0}
-HasPeriod (MaskedNewDiffersX mask x) = Unit {0}
-HasPeriod NewIsEqual = Unit {0}
-HasPeriod NewIsDifferent = Unit {0}
-HasPeriod (MaskedNewEqualsMaskedOld mask) = Unit {0}
-HasPeriod (MaskedNewDiffersMaskedOld mask) = Unit {0}
-HasPeriod (NewIsWithin min max) = Unit {0}
-HasPeriod (NewIsOutside min max) = Unit {0}
-HasPeriod NewIsGreater = Unit {0}
-HasPeriod NewIsLessOrEqual = Unit {0}
-HasPeriod NewIsLess = Unit {0}
-HasPeriod NewIsGreaterOrEqual = Unit {0}
-HasPeriod (OneEveryN period offset) = 0 < period
+-- its greatest value
+unfoldable pub greatestCount : Filter → ℕ
+greatestCount Always = 0
+greatestCount Never = 0
+greatestCount (MaskedNewEqualsX mask x) = 0
+greatestCount (MaskedNewDiffersX mask x) = 0
+greatestCount NewIsEqual = 0
+greatestCount NewIsDifferent = 0
+greatestCount (MaskedNewEqualsMaskedOld mask) = 0
+greatestCount (MaskedNewDiffersMaskedOld mask) = 0
+greatestCount (NewIsWithin min max) = 0
+greatestCount (NewIsOutside min max) = 0
+greatestCount NewIsGreater = 0
+greatestCount NewIsLessOrEqual = 0
+greatestCount NewIsLess = 0
+greatestCount NewIsGreaterOrEqual = 0
+greatestCount (OneEveryN period offset) = period - 1
+
+-- the count after one more filtering
+unfoldable pub nextCount : Filter → ℕ → ℕ
+nextCount f n = pick (ltb n (greatestCount f)) (n + 1) 0
+
+-- a count in its range, whose greatest value a byte holds
+pub record CountFits (f : Filter) (n : ℕ) : Type 0 where
+  pub low : n ≤ greatestCount f
+  pub byte : greatestCount f < 256
 
 -- the filters in the order of their numbers 0..14; c and d are the two constants of a table's record
 abbrev pub filters : ℕ → ℕ → List Filter

@@ -1,7 +1,8 @@
 // Filters of message objects (document 01, "Filters"; document 001, table 1), under OSEK COM's names.
 ghost use mathlib.Core.Path.{_≡_};
-ghost use Prim.Native.Nat.{_+_, _%_};
-ghost use Rattle.filter.specs.Filters.{nextOccurrence, HasPeriod, passes, filterOf, constants, filterRight};
+ghost use Prim.Native.Nat.{_<_};
+ghost use lib.Dec.{leb};
+ghost use Rattle.filter.specs.Filters.{passes, greatestCount, nextCount, CountFits, filterOf, constants, filterRight};
 
 // A filter with the constants that it needs.
 pub enum Filter {
@@ -97,10 +98,10 @@ fn constants_right(filter: Filter, first: u32, second: u32) -> bool
     }
 }
 
-// Whether `new` passes, after the last value that passed and so many filterings before.
-pub fn passes(filter: Filter, new: u32, old: u32, occurrence: u8) -> bool
-    requires { ⌜ HasPeriod filter ⌝ }
-    ensures { λ r. ⌜ r ≡ passes filter new old occurrence ⌝ }
+// Whether `new` passes, after the last value that passed and so many filterings. A count in its range is below the period.
+pub fn passes(filter: Filter, new: u32, old: u32, count: u8) -> bool
+    requires { ⌜ CountFits filter count ⌝ }
+    ensures { λ r. ⌜ r ≡ passes filter new old count ⌝ }
 {
     match filter {
         Filter::Always => true,
@@ -117,13 +118,37 @@ pub fn passes(filter: Filter, new: u32, old: u32, occurrence: u8) -> bool
         Filter::NewIsLessOrEqual => new <= old,
         Filter::NewIsLess => new < old,
         Filter::NewIsGreaterOrEqual => new >= old,
-        Filter::OneEveryN { period, offset } => occurrence as u32 % period == offset,
+        Filter::OneEveryN { period: _, offset } => count as u32 == offset,
     }
 }
 
-// The occurrence after one more filtering; 0 comes after 255.
-pub fn next_occurrence(occurrence: u8) -> u8
-    ensures { λ r. ⌜ r ≡ nextOccurrence occurrence ⌝ }
+// The count after one more filtering: it runs to the greatest and returns to 0.
+pub fn next_count(filter: Filter, count: u8) -> u8
+    requires { ⌜ CountFits filter count ⌝ }
+    ensures { λ r. ⌜ r ≡ nextCount filter count ⌝ }
 {
-    std::num::wrapping_add_u8(occurrence, 1)
+    if (count as u32) < greatest_count(filter) {
+        return count + 1;
+    }
+    0
+}
+
+// Whether a stored count is in its range. 0 is, with every filter.
+pub fn count_in_range(number: u32, first: u32, second: u32, count: u8) -> bool
+    ensures { λ r. ⌜ r ≡ leb count (greatestCount (filterOf number first second)) ⌝ }
+{
+    if count == 0 {
+        return true;
+    }
+    count as u32 <= greatest_count(filter_of(number, first, second))
+}
+
+// The greatest count: the period less one; with another filter 0.
+fn greatest_count(filter: Filter) -> u32
+    ensures { λ r. ⌜ r ≡ greatestCount filter ⌝ }
+{
+    match filter {
+        Filter::OneEveryN { period, offset: _ } => if period == 0 { 0 } else { period - 1 },
+        _ => 0,
+    }
 }

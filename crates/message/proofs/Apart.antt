@@ -64,7 +64,7 @@ module _ (t : List ℕ) (c : Counts) (m : List ℕ) (ready : Ready t c m) (i : �
       object-part
       (pick (enters (passesFilter (object t c i) v (objectState m i)) (object t c i .depth) (objectState m i))
       (replaced (placeAt (object t c i .depth) (objectState m i) (objectState m i .count)) (bytesOf 4 v) m) m)
-      i (delivered (passesFilter (object t c i) v (objectState m i)) (object t c i .depth) v (objectState m i))
+      i (delivered (passesFilter (object t c i) v (objectState m i)) (object t c i) v (objectState m i))
       (omega (arith, room, queue-length (enters (passesFilter (object t c i) v (objectState m i)) (object t c i .depth) (objectState m i)))) j w
       (⊎-elim
       (λ (b : j + w ≤ objectRow i). inl b)
@@ -84,14 +84,14 @@ module _ (t : List ℕ) (c : Counts) (m : List ℕ) (ready : Ready t c m) (i : �
   -- its own row
   pub deliver-row : v < 2 ^ 32
       → objectState (deliver (object t c i) i v m) i
-      ≡ delivered (passesFilter (object t c i) v (objectState m i)) (object t c i .depth) v (objectState m i)
+      ≡ delivered (passesFilter (object t c i) v (objectState m i)) (object t c i) v (objectState m i)
   unfolding deliver objectOf
   deliver-row small =
       object-stored
       (pick (enters (passesFilter (object t c i) v (objectState m i)) (object t c i .depth) (objectState m i))
       (replaced (placeAt (object t c i .depth) (objectState m i) (objectState m i .count)) (bytesOf 4 v) m) m)
-      i (delivered (passesFilter (object t c i) v (objectState m i)) (object t c i .depth) v (objectState m i))
+      i (delivered (passesFilter (object t c i) v (objectState m i)) (object t c i) v (objectState m i))
       (omega (arith, object-row t c m ready i h, queue-length (enters (passesFilter (object t c i) v (objectState m i)) (object t c i .depth) (objectState m i))))
       (kept-fits t c m ready i h _
-      (kept-delivered (objectRecord t (c .ipdus) i .depth) (depths t c i) (passesFilter (object t c i) v (objectState m i)) v (objectState m i) small
+      (kept-delivered (objectRecord t (c .ipdus) i) (depths t c i) (passesFilter (object t c i) v (objectState m i)) v (objectState m i) small
       (ready-kept t c m ready i h)))

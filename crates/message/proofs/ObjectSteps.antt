@@ -8,13 +8,22 @@ use borrow.Author.Tests.{ne-eqb}
 use lib.Dec.{eqb}
 use lib.ListN.{length}
 use Rattle.memory.specs.Search.{pick}
+use Rattle.filter.specs.declared.Filter.{Filter}
+use Rattle.filter.specs.Filters.{CountFits}
 use Rattle.config.specs.declared.Direction.{Direction}
 use Rattle.config.specs.declared.Object.{Object}
+use Rattle.state.specs.declared.ObjectState.{ObjectState}
+use Rattle.state.specs.Layout.{objectState}
 use Rattle.message.specs.Objects.{Placed, initialiseAs, initialise}
 
 -- memory of the same length keeps an object placed
 pub placed-after : (o : Object) (m n : List ℕ) → Placed o m → length n ≡ length m → Placed o n
 placed-after o m n placed same = record { long = omega (arith, placed .long, same); slot = placed .slot; ipdu = placed .ipdu }
+
+-- the count of the row that was read is in its range
+pub count-read : (f : Filter) (i : ℕ) (m : List ℕ) (s : ObjectState) → s ≡ objectState m i → CountFits f (objectState m i .occurrence)
+    → CountFits f (s .occurrence)
+count-read f i m s same fits = rw same fits
 
 -- ---- a choice by a test that the code made
 

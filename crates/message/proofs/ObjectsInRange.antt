@@ -5,7 +5,7 @@ use mathlib.Core.List.{List}
 use mathlib.Core.Logic.{inl, inr, ⊎-elim}
 use mathlib.Core.Path.{_≡_, _∙_}
 use Prim.Native.Nat.{ℕ, _+_, _-_, _^_, _≤_, _<_}
-use native.Mathlib.Nat.{mod-lt, zero-lt-suc, lt-of-lt-of-le}
+use native.Mathlib.Nat.{zero-lt-suc, lt-of-lt-of-le}
 use native.Mathlib.Omega.{arith}
 use borrow.Author.Tests.{ltb-true}
 use lib.Bits.{bitOr, or-lt}
@@ -17,10 +17,13 @@ use Rattle.memory.proofs.Parts.{bytesOf-length, bytesOf-bytes, part-length, rep
 use Rattle.memory.proofs.Tests.{true-or-false}
 use Rattle.bits.specs.Bits.{packed}
 use Rattle.bits.proofs.RoundTrip.{packed-length, packed-bytes, unpacked-lt}
-use Rattle.filter.specs.Filters.{HasPeriod}
+use Rattle.filter.specs.Filters.{CountFits}
+use Rattle.filter.proofs.Laws.{next-low}
 use Rattle.table.specs.declared.Counts.{Counts}
+use Rattle.table.specs.declared.ObjectRecord.{ObjectRecord}
 use Rattle.config.specs.declared.Object.{Object}
 use Rattle.table.specs.Records.{absent, objectRecord}
+use Rattle.table.specs.Rules.{recordFilter}
 use Rattle.table.specs.Check.{depths, Right}
 use Rattle.config.specs.Decode.{objectOf}
 use Rattle.table.proofs.Accepted.{usable}
@@ -35,8 +38,8 @@ use Rattle.queue.proofs.RingPlaces.{queue-room}
 
 -- ---- rows
 
-module _ (depth first : ℕ) where
-  pub kept-marks : (b : ℕ) (s : ObjectState) → b ≤ 15 → ObjectKept depth first s → ObjectKept depth first (withMarks b s)
+module _ (r : ObjectRecord) (first : ℕ) where
+  pub kept-marks : (b : ℕ) (s : ObjectState) → b ≤ 15 → ObjectKept r first s → ObjectKept r first (withMarks b s)
   kept-marks b s low k =
       record {
         value = k .value;
@@ -49,20 +52,20 @@ module _ (depth first : ℕ) where
         queue = k .queue;
       }
 
-  pub kept-marked : (mark : ℕ) (s : ObjectState) → mark ≤ 15 → ObjectKept depth first s → ObjectKept depth first (marked mark s)
+  pub kept-marked : (mark : ℕ) (s : ObjectState) → mark ≤ 15 → ObjectKept r first s → ObjectKept r first (marked mark s)
   unfolding marked
   kept-marked mark s low k =
       let below : bitOr (s .marks) mark < 2 ^ 4 = or-lt 4 (s .marks) mark (omega (arith, k .marks)) (omega (arith, low)) in
       kept-marks (bitOr (s .marks) mark) s (omega (arith, below)) k
 
-  pub kept-after-filter : (passed : Bool) (v : ℕ) (s : ObjectState) → v < 2 ^ 32 → ObjectKept depth first s
-      → ObjectKept depth first (afterFilter passed v s)
-  unfolding afterFilter
+  pub kept-after-filter : (passed : Bool) (v : ℕ) (s : ObjectState) → v < 2 ^ 32 → ObjectKept r first s
+      → ObjectKept r first (afterFilter passed (objectOf r) v s)
+  unfolding afterFilter objectOf
   kept-after-filter true v s h k =
       record {
         value = k .value;
         old = h;
-        occurrence = mod-lt (s .occurrence + 1) (zero-lt-suc 255);
+        occurrence = next-low (recordFilter r) (s .occurrence);
         marks = k .marks;
         overflow = k .overflow;
         count = k .count;
@@ -73,7 +76,7 @@ module _ (depth first : ℕ) where
       record {
         value = k .value;
         old = k .old;
-        occurrence = mod-lt (s .occurrence + 1) (zero-lt-suc 255);
+        occurrence = next-low (recordFilter r) (s .occurrence);
         marks = k .marks;
         overflow = k .overflow;
         count = k .count;
@@ -81,7 +84,7 @@ module _ (depth first : ℕ) where
         queue = k .queue;
       }
 
-  pub kept-old : (v : ℕ) (s : ObjectState) → v < 2 ^ 32 → ObjectKept depth first s → ObjectKept depth first (withOld v s)
+  pub kept-old : (v : ℕ) (s : ObjectState) → v < 2 ^ 32 → ObjectKept r first s → ObjectKept r first (withOld v s)
   kept-old v s h k =
       record {
         value = k .value;
@@ -94,7 +97,7 @@ module _ (depth first : ℕ) where
         queue = k .queue;
       }
 
-  pub kept-value : (v : ℕ) (s : ObjectState) → v < 2 ^ 32 → ObjectKept depth first s → ObjectKept depth first (withValue v s)
+  pub kept-value : (v : ℕ) (s : ObjectState) → v < 2 ^ 32 → ObjectKept r first s → ObjectKept r first (withValue v s)
   kept-value v s h k =
       record {
         value = h;
@@ -107,8 +110,8 @@ module _ (depth first : ℕ) where
         queue = k .queue;
       }
 
-  pub kept-queue : (lost oldest n : ℕ) (s : ObjectState) → lost ≤ 1 → n ≤ depth → oldest ≤ depth - 1 → ObjectKept depth first s
-      → ObjectKept depth first (withQueue lost oldest n s)
+  pub kept-queue : (lost oldest n : ℕ) (s : ObjectState) → lost ≤ 1 → n ≤ r .depth → oldest ≤ r .depth - 1 → ObjectKept r first s
+      → ObjectKept r first (withQueue lost oldest n s)
   kept-queue lost oldest n s a b d k =
       record {
         value = k .value;
@@ -121,24 +124,24 @@ module _ (depth first : ℕ) where
         queue = k .queue;
       }
 
-  kept-stored : (v : ℕ) (s : ObjectState) → v < 2 ^ 32 → ObjectKept depth first s → ObjectKept depth first (stored depth v s)
+  kept-stored : (v : ℕ) (s : ObjectState) → v < 2 ^ 32 → ObjectKept r first s → ObjectKept r first (stored (r .depth) v s)
   kept-stored v s h k =
       ⊎-elim
-      (λ (e : eqb depth 0 ≡ true). rw e (kept-marked 1 _ (omega arith) (kept-value v s h k)))
-      (λ (e : eqb depth 0 ≡ false).
+      (λ (e : eqb (r .depth) 0 ≡ true). rw e (kept-marked 1 _ (omega arith) (kept-value v s h k)))
+      (λ (e : eqb (r .depth) 0 ≡ false).
       ⊎-elim
-      (λ (f : ltb (s .count) depth ≡ true).
+      (λ (f : ltb (s .count) (r .depth) ≡ true).
       rw (e, f)
       (kept-marked 1 _ (omega arith)
-      (kept-queue (s .overflow) (s .head) (s .count + 1) s (k .overflow) (omega (arith, ltb-true (s .count) depth f)) (k .head) k)))
-      (λ (f : ltb (s .count) depth ≡ false). rw (e, f) (kept-queue 1 (s .head) (s .count) s (omega arith) (k .count) (k .head) k))
-      (true-or-false (ltb (s .count) depth)))
-      (true-or-false (eqb depth 0))
+      (kept-queue (s .overflow) (s .head) (s .count + 1) s (k .overflow) (omega (arith, ltb-true (s .count) (r .depth) f)) (k .head) k)))
+      (λ (f : ltb (s .count) (r .depth) ≡ false). rw (e, f) (kept-queue 1 (s .head) (s .count) s (omega arith) (k .count) (k .head) k))
+      (true-or-false (ltb (s .count) (r .depth))))
+      (true-or-false (eqb (r .depth) 0))
 
-  pub kept-delivered : (passed : Bool) (v : ℕ) (s : ObjectState) → v < 2 ^ 32 → ObjectKept depth first s
-      → ObjectKept depth first (delivered passed depth v s)
-  unfolding delivered
-  kept-delivered true v s h k = kept-stored v (afterFilter true v s) h (kept-after-filter true v s h k)
+  pub kept-delivered : (passed : Bool) (v : ℕ) (s : ObjectState) → v < 2 ^ 32 → ObjectKept r first s
+      → ObjectKept r first (delivered passed (objectOf r) v s)
+  unfolding delivered objectOf
+  kept-delivered true v s h k = kept-stored v (afterFilter true (objectOf r) v s) h (kept-after-filter true v s h k)
   kept-delivered false v s h k = kept-after-filter false v s h k
 
 -- ---- packing keeps the length
@@ -193,9 +196,9 @@ module _ (t : List ℕ) (c : Counts) (m : List ℕ) (ready : Ready t c m) (i : �
         queue = omega (arith, kept .queue, q .sum);
       }
 
-  pub ready-period : HasPeriod (object t c i .filter)
+  pub ready-count : CountFits (object t c i .filter) (objectState m i .occurrence)
   unfolding objectOf
-  ready-period = usable t c (ready .right) i h .filter
+  ready-count = record { low = ready-kept t c m ready i h .occurrence; byte = usable t c (ready .right) i h .filter }
 
   pub ready-placed : Placed (object t c i) m
   ready-placed = right-placed t c m (ready .right) (omega (arith, ready .long)) i h
@@ -205,8 +208,8 @@ module _ (t : List ℕ) (c : Counts) (m : List ℕ) (ready : Ready t c m) (i : �
     pub decoded-held : Held (o .depth) i m
     decoded-held = rw same ready-held
 
-    pub decoded-period : HasPeriod (o .filter)
-    decoded-period = rw same ready-period
+    pub decoded-count : CountFits (o .filter) (objectState m i .occurrence)
+    decoded-count = rw same ready-count
 
     pub decoded-placed : Placed o m
     decoded-placed = rw same ready-placed
@@ -247,8 +250,8 @@ module _ (t : List ℕ) (c : Counts) (m : List ℕ) (ready : Ready t c m) (i : �
       (pick (enters (passesFilter (object t c i) v (objectState m i)) (object t c i .depth) (objectState m i))
       (replaced (placeAt (object t c i .depth) (objectState m i) (objectState m i .count)) (bytesOf 4 v) m) m)
       (ready-queued v (enters (passesFilter (object t c i) v (objectState m i)) (object t c i .depth) (objectState m i))) i h
-      (delivered (passesFilter (object t c i) v (objectState m i)) (object t c i .depth) v (objectState m i))
-      (kept-delivered (objectRecord t (c .ipdus) i .depth) (depths t c i) (passesFilter (object t c i) v (objectState m i)) v (objectState m i) low
+      (delivered (passesFilter (object t c i) v (objectState m i)) (object t c i) v (objectState m i))
+      (kept-delivered (objectRecord t (c .ipdus) i) (depths t c i) (passesFilter (object t c i) v (objectState m i)) v (objectState m i) low
       (ready-kept t c m ready i h))
 
 -- ---- turns, and all of them

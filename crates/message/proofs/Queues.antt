@@ -132,26 +132,26 @@ waiting-oldest depth i m held some =
 -- ---- delivery
 
 -- of the row's numbers of the queue it changes the count alone, by 1, where the value enters the queue
-record RingDelivered (passed : Bool) (depth v : ℕ) (s : ObjectState) : Type 0 where
-  head : delivered passed depth v s .head ≡ s .head
-  count : delivered passed depth v s .count ≡ pick (enters passed depth s) (s .count + 1) (s .count)
-  queue : delivered passed depth v s .queue ≡ s .queue
+record RingDelivered (passed : Bool) (o : Object) (v : ℕ) (s : ObjectState) : Type 0 where
+  head : delivered passed o v s .head ≡ s .head
+  count : delivered passed o v s .count ≡ pick (enters passed (o .depth) s) (s .count + 1) (s .count)
+  queue : delivered passed o v s .queue ≡ s .queue
 
 -- that is so of every delivery: passed or not, with a queue or none, with room or full
-ring-delivered : (passed : Bool) (depth v : ℕ) (s : ObjectState) → RingDelivered passed depth v s
+ring-delivered : (passed : Bool) (o : Object) (v : ℕ) (s : ObjectState) → RingDelivered passed o v s
 unfolding delivered afterFilter marked
-ring-delivered false depth v s = record { head = refl; count = refl; queue = refl }
-ring-delivered true depth v s =
+ring-delivered false o v s = record { head = refl; count = refl; queue = refl }
+ring-delivered true o v s =
     ⊎-elim
-    (λ (e : eqb depth 0 ≡ true).
-    let none : depth ≤ s .count = omega (arith, eqb-true depth 0 e) in
-    record { head = rw e; count = rw (e, le-ltb (s .count) depth none); queue = rw e })
-    (λ (e : eqb depth 0 ≡ false).
+    (λ (e : eqb (o .depth) 0 ≡ true).
+    let none : o .depth ≤ s .count = omega (arith, eqb-true (o .depth) 0 e) in
+    record { head = rw e; count = rw (e, le-ltb (s .count) (o .depth) none); queue = rw e })
+    (λ (e : eqb (o .depth) 0 ≡ false).
     ⊎-elim
-    (λ (f : ltb (s .count) depth ≡ true). record { head = rw (e, f); count = rw (e, f); queue = rw (e, f) })
-    (λ (f : ltb (s .count) depth ≡ false). record { head = rw (e, f); count = rw (e, f); queue = rw (e, f) })
-    (true-or-false (ltb (s .count) depth)))
-    (true-or-false (eqb depth 0))
+    (λ (f : ltb (s .count) (o .depth) ≡ true). record { head = rw (e, f); count = rw (e, f); queue = rw (e, f) })
+    (λ (f : ltb (s .count) (o .depth) ≡ false). record { head = rw (e, f); count = rw (e, f); queue = rw (e, f) })
+    (true-or-false (ltb (s .count) (o .depth))))
+    (true-or-false (eqb (o .depth) 0))
 
 -- working memory with v at the place behind all values, where it enters the queue
 abbrev enqueued : Bool → ℕ → ℕ → ℕ → List ℕ → List ℕ
@@ -206,8 +206,8 @@ module _ (o : Object) (i v : ℕ) (m : List ℕ) (held : Held (o .depth) i m) wh
       let s = objectState m i in
       let d = o .depth in
       let enter = enters (passesFilter o v s) d s in
-      let r = delivered (passesFilter o v s) d v s in
-      let ring = ring-delivered (passesFilter o v s) d v s in
+      let r = delivered (passesFilter o v s) o v s in
+      let ring = ring-delivered (passesFilter o v s) o v s in
       let most = picked (λ (n : ℕ). n < 256) enter (s .count + 1) (s .count) (λ y. omega (arith, held .count, held .few)) (λ y. omega (arith, held .count, held .few)) in
       let fits : RingFits r =
       record {
@@ -243,7 +243,7 @@ module _ (o : Object) (i v : ℕ) (m : List ℕ) (held : Held (o .depth) i m) wh
       let s = objectState m i in
       let enter = enters (passesFilter o v s) (o .depth) s in
       let p = placeAt (o .depth) s (s .count) in
-      object-part (enqueued enter (o .depth) i v m) i (delivered (passesFilter o v s) (o .depth) v s) (row-room enter) at w (inr (omega (arith, behind, held .number)))
+      object-part (enqueued enter (o .depth) i v m) i (delivered (passesFilter o v s) o v s) (row-room enter) at w (inr (omega (arith, behind, held .number)))
       ∙ picked (λ (n : List ℕ). part at w n ≡ part at w m) enter (replaced p (bytesOf 4 v) m) m
       (λ y.
       part-apart p (bytesOf 4 v) m at w place-room

@@ -50,13 +50,13 @@ markSendError = 8
 unfoldable pub marked : ℕ → ObjectState → ObjectState
 marked mark s = withMarks (bitOr (s .marks) mark) s
 
--- ---- filters: old becomes a value that passed; every filtering counts
+-- ---- filters: old becomes a value that passed; every filtering counts, as the filter does
 
 abbrev pub passesFilter : Object → ℕ → ObjectState → Bool
 passesFilter o v s = passes (o .filter) v (s .old) (s .occurrence)
 
-unfoldable pub afterFilter : Bool → ℕ → ObjectState → ObjectState
-afterFilter passed v s = counted (pick passed (withOld v s) s)
+unfoldable pub afterFilter : Bool → Object → ℕ → ObjectState → ObjectState
+afterFilter passed o v s = counted (o .filter) (pick passed (withOld v s) s)
 
 -- ---- delivery: what the filter passes is stored, becomes old, and is marked as arrived. Where the queue has no room it is lost: that is
 -- noted and it becomes old, with no mark.
@@ -67,8 +67,8 @@ stored depth v s =
     (pick (ltb (s .count) depth) (marked markArrived (withQueue (s .overflow) (s .head) (s .count + 1) s))
     (withQueue 1 (s .head) (s .count) s))
 
-unfoldable pub delivered : Bool → ℕ → ℕ → ObjectState → ObjectState
-delivered passed depth v s = pick passed (stored depth v (afterFilter passed v s)) (afterFilter passed v s)
+unfoldable pub delivered : Bool → Object → ℕ → ObjectState → ObjectState
+delivered passed o v s = pick passed (stored (o .depth) v (afterFilter passed o v s)) (afterFilter passed o v s)
 
 -- the value enters the queue
 abbrev pub enters : Bool → ℕ → ObjectState → Bool
@@ -78,7 +78,7 @@ abbrev pub delivery : Bool → Object → ℕ → ℕ → ObjectState → List �
 delivery passed o i v s m =
     withObjectState
     (pick (enters passed (o .depth) s) (replaced (placeAt (o .depth) s (s .count)) (bytesOf 4 v) m) m)
-    i (delivered passed (o .depth) v s)
+    i (delivered passed o v s)
 
 unfoldable pub deliver : Object → ℕ → ℕ → List ℕ → List ℕ
 deliver o i v m = delivery (passesFilter o v (objectState m i)) o i v (objectState m i) m

@@ -10,7 +10,7 @@ ghost use mathlib.Core.Path.{_≡_};
 ghost use Prim.Native.Nat.{_+_, _≤_, _<_};
 ghost use lib.ListN.{length};
 ghost use Rattle.table.specs.Records.{mostIpdus, sending};
-ghost use Rattle.filter.specs.Filters.{HasPeriod};
+ghost use Rattle.filter.specs.Filters.{CountFits};
 ghost use Rattle.config.specs.declared.Direction.the-variants.{Send};
 ghost use Rattle.state.specs.Layout.{rowSize, objectRow, objectState, withObjectState};
 ghost use Rattle.state.specs.Updates.{withOld, withValue, withQueue};
@@ -20,7 +20,7 @@ ghost use Rattle.queue.specs.Queues.{Held};
 // Delivers a value to a receive object.
 pub fn deliver(m: &mut [u8], number: ObjectNumber, o: Object, v: u32)
     requires { ⌜ Held (o .depth) (number .0) (now m) ⌝ }
-    requires { ⌜ HasPeriod (o .filter) ⌝ }
+    requires { ⌜ CountFits (o .filter) (objectState (now m) (number .0) .occurrence) ⌝ }
     ensures { λ _. ⌜ now (m .exit) ≡ deliver o (number .0) v (now (m .entry)) ⌝ }
 {
     let s = state::object_state(m, number);
@@ -32,20 +32,20 @@ pub fn deliver(m: &mut [u8], number: ObjectNumber, o: Object, v: u32)
         queue::place_at(o.depth, s, s.count),
         v,
     );
-    state::set_object_state(m, number, delivered(passed, o.depth, v, s));
+    state::set_object_state(m, number, delivered(passed, o, v, s));
 }
 
 // Filters a value on the sending side, and answers whether it passed.
 pub fn filter_sent(m: &mut [u8], number: ObjectNumber, o: Object, v: u32) -> bool
     requires { ⌜ objectRow (number .0) + rowSize ≤ length (now m) ⌝ }
-    requires { ⌜ HasPeriod (o .filter) ⌝ }
+    requires { ⌜ CountFits (o .filter) (objectState (now m) (number .0) .occurrence) ⌝ }
     ensures passed { λ r. ⌜ r ≡ passesFilter o v (objectState (now (m .entry)) (number .0)) ⌝ }
-    ensures row { λ r. ⌜ now (m .exit) ≡ withObjectState (now (m .entry)) (number .0) (afterFilter r v (objectState (now (m .entry)) (number .0))) ⌝ }
+    ensures row { λ r. ⌜ now (m .exit) ≡ withObjectState (now (m .entry)) (number .0) (afterFilter r o v (objectState (now (m .entry)) (number .0))) ⌝ }
 {
     let s = state::object_state(m, number);
     let f = o.filter;
     let passed = filter::passes(f, v, s.old, s.occurrence);
-    state::set_object_state(m, number, after_filter(passed, v, s));
+    state::set_object_state(m, number, after_filter(passed, o, v, s));
     passed
 }
 
@@ -111,11 +111,13 @@ fn initialise_receive(m: &mut [u8], number: ObjectNumber, v: u32)
 }
 
 // The numbers of an object after a filtering.
-fn after_filter(passed: bool, v: u32, s: ObjectState) -> ObjectState
-    ensures { λ r. ⌜ r ≡ afterFilter passed v s ⌝ }
+fn after_filter(passed: bool, o: Object, v: u32, s: ObjectState) -> ObjectState
+    requires { ⌜ CountFits (o .filter) (s .occurrence) ⌝ }
+    ensures { λ r. ⌜ r ≡ afterFilter passed o v s ⌝ }
 {
     let mut next = s;
-    next.occurrence = filter::next_occurrence(s.occurrence);
+    let f = o.filter;
+    next.occurrence = filter::next_count(f, s.occurrence);
     if passed {
         next.old = v;
         return next;
@@ -124,19 +126,20 @@ fn after_filter(passed: bool, v: u32, s: ObjectState) -> ObjectState
 }
 
 // The numbers of an object after a delivery.
-fn delivered(passed: bool, depth: u32, v: u32, s: ObjectState) -> ObjectState
-    ensures { λ r. ⌜ r ≡ delivered passed depth v s ⌝ }
+fn delivered(passed: bool, o: Object, v: u32, s: ObjectState) -> ObjectState
+    requires { ⌜ CountFits (o .filter) (s .occurrence) ⌝ }
+    ensures { λ r. ⌜ r ≡ delivered passed o v s ⌝ }
 {
-    let mut next = after_filter(passed, v, s);
+    let mut next = after_filter(passed, o, v, s);
     if !passed {
         return next;
     }
-    if depth == 0 {
+    if o.depth == 0 {
         next.value = v;
         next.marks = next.marks | ARRIVED;
         return next;
     }
-    if next.count < depth {
+    if next.count < o.depth {
         next.count = next.count + 1;
         next.marks = next.marks | ARRIVED;
         return next;

@@ -7,6 +7,7 @@ use state::RUNNING;
 use table::Counts;
 use table::IpduNumber;
 use table::ObjectNumber;
+use table::ObjectRecord;
 ghost use mathlib.Core.Bool.{not};
 ghost use mathlib.Core.Path.{_≡_};
 ghost use Prim.Native.Nat.{_-_, _≤_, max};
@@ -59,7 +60,7 @@ fn objects_in_range(t: &[u8], c: Counts, m: &[u8]) -> bool
     let mut i = 0;
     while i < end {
         let r = table::object_record(t, n, ObjectNumber(i));
-        if !object_in_range(r.depth, first, state::object_state(m, ObjectNumber(i))) {
+        if !object_in_range(r, first, state::object_state(m, ObjectNumber(i))) {
             return false;
         }
         first += r.depth;
@@ -105,11 +106,17 @@ fn receive_in_range(p: Ipdu, s: IpduState) -> bool
         & (s.timer <= longest)
 }
 
-fn object_in_range(depth: u32, first: u32, s: ObjectState) -> bool
-    ensures { λ b. ⌜ b ≡ objectInRange depth first s ⌝ }
+fn object_in_range(r: ObjectRecord, first: u32, s: ObjectState) -> bool
+    ensures { λ b. ⌜ b ≡ objectInRange r first s ⌝ }
 {
-    let last = one_less(depth);
-    (s.marks <= 15) & (s.overflow <= 1) & (s.count <= depth) & (s.head <= last) & (s.queue == first)
+    let counted = filter::count_in_range(r.filter, r.first, r.second, s.occurrence);
+    let last = one_less(r.depth);
+    counted
+        & (s.marks <= 15)
+        & (s.overflow <= 1)
+        & (s.count <= r.depth)
+        & (s.head <= last)
+        & (s.queue == first)
 }
 
 fn larger(a: u32, b: u32) -> u32

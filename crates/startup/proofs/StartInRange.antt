@@ -16,6 +16,7 @@ use Rattle.memory.proofs.Parts.{number-one, number-lt}
 use Rattle.memory.proofs.Search.{below-suc}
 use Rattle.memory.proofs.Tests.{lt-or-le}
 use Rattle.table.specs.declared.Counts.{Counts}
+use Rattle.table.specs.declared.ObjectRecord.{ObjectRecord}
 use Rattle.config.specs.declared.Direction.{Direction}
 use Rattle.config.specs.declared.Direction.the-variants.{Send, Receive}
 use Rattle.config.specs.declared.Ipdu.{Ipdu}
@@ -58,8 +59,8 @@ idle-fits n h = search needs
 pub unused-fits : (value old queue : ℕ) → value < 2 ^ 32 → old < 2 ^ 32 → queue ≤ mostQueued → ObjectFits (unused value old queue)
 unused-fits value old queue a b d = search needs
 
-unused-range : (depth value old queue : ℕ) → value < 2 ^ 32 → old < 2 ^ 32 → objectInRange depth queue (unused value old queue) ≡ true
-unused-range depth value old queue a b = kept-object depth queue (unused value old queue) (search needs)
+unused-range : (r : ObjectRecord) (value old queue : ℕ) → value < 2 ^ 32 → old < 2 ^ 32 → objectInRange r queue (unused value old queue) ≡ true
+unused-range r value old queue a b = kept-object r queue (unused value old queue) (search needs)
 
 -- ---- zeros
 
@@ -119,7 +120,7 @@ module _ (t : List ℕ) (c : Counts) (right : Right t c) (bt : Bytes t) where
     pub bytes : Bytes m
     pub running : runningAt m ≡ 0
     pub ipdus : (k : ℕ) → k < c .ipdus → ipduInRange (ipdu t k) (ipduState m k) ≡ true
-    pub objects : (i : ℕ) → i < n → objectInRange (objectRecord t (c .ipdus) i .depth) (depths t c i) (objectState m i) ≡ true
+    pub objects : (i : ℕ) → i < n → objectInRange (objectRecord t (c .ipdus) i) (depths t c i) (objectState m i) ≡ true
 
   module _ (n : ℕ) (h : n < c .objects) (m : List ℕ) (b : Set n m) where
     room : objectRow n + rowSize ≤ length m
@@ -149,10 +150,10 @@ module _ (t : List ℕ) (c : Counts) (right : Right t c) (bt : Bytes t) where
           ipdus = λ k few.
               rw (object-keeps-ipdus l n s there k (omega (arith, few, right .shape .ipdus)) ∙ ipdu-read l m k (λ o w e. low (ipduRow k + o) w (omega (arith, e, few, right .shape .ipdus))))
               (b .ipdus k few);
-          objects = below-suc {P = λ (i : ℕ). objectInRange (objectRecord t (c .ipdus) i .depth) (depths t c i) (objectState (withObjectState l n s) i) ≡ true}
+          objects = below-suc {P = λ (i : ℕ). objectInRange (objectRecord t (c .ipdus) i) (depths t c i) (objectState (withObjectState l n s) i) ≡ true}
               (λ i few. rw (object-other l n s there i (λ e. absurd (omega (arith, few, e))) ∙ rows i) (b .objects i few))
               (rw (object-stored l n s there (unused-fits v (object t c n .initial) (depths t c n) small initial-fits queue-low))
-              (unused-range (objectRecord t (c .ipdus) n .depth) v (object t c n .initial) (depths t c n) small initial-fits));
+              (unused-range (objectRecord t (c .ipdus) n) v (object t c n .initial) (depths t c n) small initial-fits));
         }
 
     -- packing leaves all rows

@@ -14,8 +14,11 @@ use Rattle.memory.proofs.Parts.{part-apart, replaced-length, replaced-bytes}
 use Rattle.memory.specs.Search.{anyBelow}
 use Rattle.memory.proofs.Search.{any-none, any-false}
 use Rattle.memory.proofs.Tests.{each-true, eq-or-ne}
+use Rattle.filter.specs.Filters.{greatestCount}
 use Rattle.table.specs.declared.Counts.{Counts}
+use Rattle.table.specs.declared.ObjectRecord.{ObjectRecord}
 use Rattle.table.specs.Records.{mostQueued, ipduRecord, objectRecord}
+use Rattle.table.specs.Rules.{recordFilter}
 use Rattle.table.specs.Check.{depths, Right}
 use Rattle.config.specs.Decode.{ipduOf}
 use Rattle.table.proofs.Accepted.{usable}
@@ -29,36 +32,41 @@ use Rattle.state.proofs.Turns.{depth-sum}
 
 -- ---- an object's numbers in their ranges
 
-pub record ObjectKept (depth first : ℕ) (s : ObjectState) : Type 0 where
+pub record ObjectKept (r : ObjectRecord) (first : ℕ) (s : ObjectState) : Type 0 where
   pub value : s .value < 2 ^ 32
   pub old : s .old < 2 ^ 32
-  pub occurrence : s .occurrence < 256
+  pub occurrence : s .occurrence ≤ greatestCount (recordFilter r)
   pub marks : s .marks ≤ 15
   pub overflow : s .overflow ≤ 1
-  pub count : s .count ≤ depth
-  pub head : s .head ≤ depth - 1
+  pub count : s .count ≤ r .depth
+  pub head : s .head ≤ r .depth - 1
   pub queue : s .queue ≡ first
 
-object-kept : (depth first : ℕ) (s : ObjectState) → ObjectFits s → objectInRange depth first s ≡ true → ObjectKept depth first s
+object-kept : (r : ObjectRecord) (first : ℕ) (s : ObjectState) → ObjectFits s → objectInRange r first s ≡ true → ObjectKept r first s
 unfolding objectInRange
-object-kept depth first s f e =
+object-kept r first s f e =
     let all =
-    each-true (leb (s .marks) 15)
-    (leb (s .overflow) 1 ∷ leb (s .count) depth ∷ leb (s .head) (depth - 1) ∷ eqb (s .queue) first ∷ []) e in
+    each-true (leb (s .occurrence) (greatestCount (recordFilter r)))
+    (leb (s .marks) 15 ∷ leb (s .overflow) 1 ∷ leb (s .count) (r .depth) ∷ leb (s .head) (r .depth - 1) ∷ eqb (s .queue) first ∷ []) e in
     search (leb-true, eqb-true)
 
-pub kept-object : (depth first : ℕ) (s : ObjectState) → ObjectKept depth first s → objectInRange depth first s ≡ true
+pub kept-object : (r : ObjectRecord) (first : ℕ) (s : ObjectState) → ObjectKept r first s → objectInRange r first s ≡ true
 unfolding objectInRange
-kept-object depth first s k =
+kept-object r first s k =
     rw (
+      le-leb (s .occurrence) (greatestCount (recordFilter r)) (k .occurrence),
       le-leb (s .marks) 15 (k .marks),
       le-leb (s .overflow) 1 (k .overflow),
-      le-leb (s .count) depth (k .count),
-      le-leb (s .head) (depth - 1) (k .head),
+      le-leb (s .count) (r .depth) (k .count),
+      le-leb (s .head) (r .depth - 1) (k .head),
     )
     (eq-eqb (s .queue) first (k .queue))
 
 module _ (t : List ℕ) (c : Counts) (m : List ℕ) (ready : Ready t c m) where
+  -- what a byte holds is enough for an object's count
+  pub count-byte : (i : ℕ) → i < c .objects → greatestCount (recordFilter (objectRecord t (c .ipdus) i)) < 256
+  count-byte i h = usable t c (ready .right) i h .filter
+
   -- where an object's queue ends, and its depth
   pub record InQueues (i : ℕ) : Type 0 where
     pub depth : objectRecord t (c .ipdus) i .depth ≤ 16
@@ -73,17 +81,17 @@ module _ (t : List ℕ) (c : Counts) (m : List ℕ) (ready : Ready t c m) where
   pub ipdu-row : (k : ℕ) → k < c .ipdus → ipduRow k + rowSize ≤ length m
   ipdu-row k h = omega (arith, h, ready .long, ready .right .shape .ipdus)
 
-  pub ready-kept : (i : ℕ) → i < c .objects → ObjectKept (objectRecord t (c .ipdus) i .depth) (depths t c i) (objectState m i)
+  pub ready-kept : (i : ℕ) → i < c .objects → ObjectKept (objectRecord t (c .ipdus) i) (depths t c i) (objectState m i)
   ready-kept i h =
-      object-kept (objectRecord t (c .ipdus) i .depth) (depths t c i) (objectState m i) (object-fits m i (ready .bytes)) (ready .objects i h)
+      object-kept (objectRecord t (c .ipdus) i) (depths t c i) (objectState m i) (object-fits m i (ready .bytes)) (ready .objects i h)
 
-  pub kept-fits : (i : ℕ) → i < c .objects → (s : ObjectState) → ObjectKept (objectRecord t (c .ipdus) i .depth) (depths t c i) s → ObjectFits s
+  pub kept-fits : (i : ℕ) → i < c .objects → (s : ObjectState) → ObjectKept (objectRecord t (c .ipdus) i) (depths t c i) s → ObjectFits s
   kept-fits i h s kept =
       let q = in-queues i h in
       record {
         value = kept .value;
         old = kept .old;
-        occurrence = kept .occurrence;
+        occurrence = omega (arith, kept .occurrence, count-byte i h);
         marks = omega (arith, kept .marks);
         overflow = omega (arith, kept .overflow);
         head = omega (arith, kept .head, q .depth);
@@ -92,7 +100,7 @@ module _ (t : List ℕ) (c : Counts) (m : List ℕ) (ready : Ready t c m) where
       }
 
   -- an object's row set to numbers in range
-  pub ready-object : (i : ℕ) → i < c .objects → (s : ObjectState) → ObjectKept (objectRecord t (c .ipdus) i .depth) (depths t c i) s
+  pub ready-object : (i : ℕ) → i < c .objects → (s : ObjectState) → ObjectKept (objectRecord t (c .ipdus) i) (depths t c i) s
       → Ready t c (withObjectState m i s)
   unfolding runningAt numberAt
   ready-object i h s kept =
@@ -113,10 +121,10 @@ module _ (t : List ℕ) (c : Counts) (m : List ℕ) (ready : Ready t c m) where
       fits = kept-fits i h s kept
 
       objects : (j : ℕ) → j < c .objects
-          → objectInRange (objectRecord t (c .ipdus) j .depth) (depths t c j) (objectState (withObjectState m i s) j) ≡ true
+          → objectInRange (objectRecord t (c .ipdus) j) (depths t c j) (objectState (withObjectState m i s) j) ≡ true
       objects j b =
           ⊎-elim
-          (λ (e : j ≡ i). rw (e, object-stored m i s room fits) (kept-object (objectRecord t (c .ipdus) i .depth) (depths t c i) s kept))
+          (λ (e : j ≡ i). rw (e, object-stored m i s room fits) (kept-object (objectRecord t (c .ipdus) i) (depths t c i) s kept))
           (λ (ne : j ≡ i → ⊥). rw (object-other m i s room j ne) (ready .objects j b))
           (eq-or-ne j i)
 

@@ -115,6 +115,11 @@ module _ (m : List ℕ) (i : ℕ) (s : ObjectState) (room : objectRow i + rowSiz
         mod-eq-of-lt (f .queue),
       )
 
+  -- the occurrence alone
+  pub object-occurrence : s .occurrence < 256 → objectState (withObjectState m i s) i .occurrence ≡ s .occurrence
+  unfolding withObjectState objectState
+  object-occurrence small = rw (put-holds (objectRow i) 0 16 (objectFields s) m refl room .1 .1 .0, mod-eq-of-lt small)
+
 -- ---- bytes stay bytes, and hold numbers that fit them
 
 pub ipdu-bytes : (m : List ℕ) (k : ℕ) (s : IpduState) → Bytes m → Bytes (withIpduState m k s)

@@ -45,7 +45,7 @@ module _ (t : List ℕ) (c : Counts) (i : ℕ) {first : ℕ} {r : ObjectRecord} 
   pub first-fits : Right t c → i < c .objects → first + r .depth < 2 ^ 32
   first-fits right h = rw (sum, here) (omega (arith, depth-sum t c right i h))
 
-  module _ (m : List ℕ) {b : Bool} {s : ObjectState} (test : b ≡ objectInRange (r .depth) first s) (stored : s ≡ objectState m i) where
+  module _ (m : List ℕ) {b : Bool} {s : ObjectState} (test : b ≡ objectInRange r first s) (stored : s ≡ objectState m i) where
     pub object-out : i < c .objects → not b ≡ true → false ≡ not (anyBelow (c .objects) (objectOut t c m))
     object-out h e = some-out (c .objects) (objectOut t c m) h (rw (← here, ← sum, ← stored, ← test) e)
 

@@ -1,5 +1,5 @@
 -- The ranges of the stored numbers, as docs/MEMORY.md lists them: refusal 6 for a range is given exactly by these.
--- Numbers that are not named here (values, old values, occurrences) may be anything that their bytes hold. Assumes nothing.
+-- Numbers that are not named here (values, old values) may be anything that their bytes hold. Assumes nothing.
 use mathlib.Core.Bool.{Bool, true, not, _&&_}
 use mathlib.Core.List.{List}
 use mathlib.Core.Path.{_≡_}
@@ -8,11 +8,14 @@ use lib.ListN.{length}
 use Rattle.memory.specs.Bytes.{Bytes}
 use lib.Dec.{leb, eqb}
 use Rattle.memory.specs.Search.{anyBelow}
+use Rattle.filter.specs.Filters.{greatestCount}
 use Rattle.table.specs.declared.Counts.{Counts}
+use Rattle.table.specs.declared.ObjectRecord.{ObjectRecord}
 use Rattle.config.specs.declared.Direction.{Direction}
 use Rattle.config.specs.declared.Direction.the-variants.{Send, Receive}
 use Rattle.config.specs.declared.Ipdu.{Ipdu}
 use Rattle.table.specs.Records.{ipduRecord, objectRecord}
+use Rattle.table.specs.Rules.{recordFilter}
 use Rattle.table.specs.Check.{depths, Right}
 use Rattle.config.specs.Decode.{ipduOf}
 use Rattle.state.specs.declared.IpduState.{IpduState}
@@ -43,21 +46,22 @@ inRangeAs Receive p s =
 unfoldable pub ipduInRange : Ipdu → IpduState → Bool
 ipduInRange p s = inRangeAs (p .direction) p s
 
--- the four marks, the overflow flag, a count of at most the depth, the place of the oldest value below it; the queue begins
--- where those of all lower objects end
-unfoldable pub objectInRange : ℕ → ℕ → ObjectState → Bool
-objectInRange depth first s =
-    leb (s .marks) 15
+-- the occurrence is at most the filter's greatest count; the four marks, the overflow flag, a count of at most the depth, the place of the
+-- oldest value below it; the queue begins where those of all lower objects end
+unfoldable pub objectInRange : ObjectRecord → ℕ → ObjectState → Bool
+objectInRange r first s =
+    leb (s .occurrence) (greatestCount (recordFilter r))
+    && leb (s .marks) 15
     && leb (s .overflow) 1
-    && leb (s .count) depth
-    && leb (s .head) (depth - 1)
+    && leb (s .count) (r .depth)
+    && leb (s .head) (r .depth - 1)
     && eqb (s .queue) first
 
 abbrev pub ipduOut : List ℕ → List ℕ → ℕ → Bool
 ipduOut t m k = not (ipduInRange (ipduOf (ipduRecord t k)) (ipduState m k))
 
 abbrev pub objectOut : List ℕ → Counts → List ℕ → ℕ → Bool
-objectOut t c m i = not (objectInRange (objectRecord t (c .ipdus) i .depth) (depths t c i) (objectState m i))
+objectOut t c m i = not (objectInRange (objectRecord t (c .ipdus) i) (depths t c i) (objectState m i))
 
 -- every stored number is in its range
 unfoldable pub inRange : List ℕ → Counts → List ℕ → Bool
@@ -72,4 +76,4 @@ pub record Ready (t : List ℕ) (c : Counts) (m : List ℕ) : Type 0 where
   pub running : leb (runningAt m) 1 ≡ true
   pub ipdus : (k : ℕ) → k < c .ipdus → ipduInRange (ipduOf (ipduRecord t k)) (ipduState m k) ≡ true
   pub objects : (i : ℕ) → i < c .objects
-      → objectInRange (objectRecord t (c .ipdus) i .depth) (depths t c i) (objectState m i) ≡ true
+      → objectInRange (objectRecord t (c .ipdus) i) (depths t c i) (objectState m i) ≡ true

@@ -1,19 +1,20 @@
 -- The stored numbers of a row with some of them set, the others as they were.
 -- Assumes nothing.
 use Prim.Native.Nat.{ℕ}
-use Rattle.filter.specs.Filters.{nextOccurrence}
+use Rattle.filter.specs.declared.Filter.{Filter}
+use Rattle.filter.specs.Filters.{nextCount}
 use Rattle.state.specs.declared.IpduState.{IpduState}
 use Rattle.state.specs.declared.ObjectState.{ObjectState}
 
 -- ---- a message object
 
 -- one more filtering
-abbrev pub counted : ObjectState → ObjectState
-counted s =
+abbrev pub counted : Filter → ObjectState → ObjectState
+counted f s =
     record {
       value = s .value;
       old = s .old;
-      occurrence = nextOccurrence (s .occurrence);
+      occurrence = nextCount f (s .occurrence);
       marks = s .marks;
       overflow = s .overflow;
       head = s .head;

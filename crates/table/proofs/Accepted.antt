@@ -14,13 +14,13 @@ use Rattle.memory.proofs.Search.{least-none, least-before, sum-more}
 use Rattle.memory.proofs.Tests.{and-split, or-split, true-or-false}
 use Rattle.bits.specs.Bits.{room}
 use Rattle.bits.specs.Slots.{position, InSlot}
-use Rattle.filter.specs.Filters.{HasPeriod, filterOf}
-use Rattle.filter.proofs.Laws.{right-has-period}
+use Rattle.filter.specs.Filters.{greatestCount}
+use Rattle.filter.proofs.Laws.{right-count}
 use Rattle.table.specs.declared.Counts.{Counts}
 use Rattle.table.specs.declared.ObjectRecord.{ObjectRecord}
 use Rattle.table.specs.declared.Verdict.the-variants.{Accepted, WrongHeader, WrongIpdu, WrongObject}
 use Rattle.table.specs.Records.{mostQueued, sending, counts, ipduRecord, objectRecord}
-use Rattle.table.specs.Rules.{headerRight, orderOf, references, withoutIpdu, withinIpdu}
+use Rattle.table.specs.Rules.{headerRight, orderOf, references, withoutIpdu, withinIpdu, recordFilter}
 use Rattle.table.specs.Check.{wrongIpdu, wrongAlone, overlapsLower, depths, pastDepth, wrongObject, checkObjects, checkIpdus, check, Right}
 use Rattle.table.proofs.Facts.{ObjectFacts, object-facts, ByteFacts, byte-facts, or-right, InIpdu, in-ipdu, picked}
 use Rattle.table.proofs.Verdicts.{header-shape}
@@ -119,7 +119,7 @@ pub record Usable (t : List ℕ) (c : Counts) (r : ObjectRecord) : Type 0 where
   pub room : eqb (r .ipdu) 255 ≡ false → room (orderOf (r .order)) (r .start) (r .size) (ipduRecord t (r .ipdu) .length) ≡ true
   pub sender : eqb (r .sender) 255 ≡ false → (r .sender < c .objects) × (objectRecord t (c .ipdus) (r .sender) .kind ≡ sending)
   pub depth : r .depth ≤ 16
-  pub filter : HasPeriod (filterOf (r .filter) (r .first) (r .second))
+  pub filter : greatestCount (recordFilter r) < 256
 
 pub usable : (t : List ℕ) (c : Counts) → Right t c → (i : ℕ) → i < c .objects → Usable t c (objectRecord t (c .ipdus) i)
 unfolding references
@@ -131,7 +131,7 @@ usable t c right i h =
       room = λ some. inside some .room;
       sender = sender;
       depth = bytes .depths;
-      filter = right-has-period (r .filter) (r .first) (r .second) (facts .filters);
+      filter = right-count (r .filter) (r .first) (r .second) (facts .filters);
     }
   where
     r : ObjectRecord

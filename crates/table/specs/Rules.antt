@@ -10,7 +10,8 @@ use Rattle.memory.specs.Search.{pick}
 use Rattle.bits.specs.declared.Order.{Order}
 use Rattle.bits.specs.declared.Order.the-variants.{Little, Big}
 use Rattle.bits.specs.Bits.{room}
-use Rattle.filter.specs.Filters.{filterRight}
+use Rattle.filter.specs.declared.Filter.{Filter}
+use Rattle.filter.specs.Filters.{filterOf, filterRight}
 use Rattle.table.specs.declared.Counts.{Counts}
 use Rattle.table.specs.declared.IpduRecord.{IpduRecord}
 use Rattle.table.specs.declared.ObjectRecord.{ObjectRecord}
@@ -65,6 +66,10 @@ ipduRight r = ipduBytes r && (eqb (r .direction) sending && sendIpdu r || eqb (r
 
 abbrev pub orderOf : ℕ → Order
 orderOf n = pick (eqb n 0) Little Big
+
+-- its filter, with the constants that it needs
+abbrev pub recordFilter : ObjectRecord → Filter
+recordFilter r = filterOf (r .filter) (r .first) (r .second)
 
 -- what a record refers to: direction and length of its I-PDU, kind of its sending object; 0 where there is none such
 unfoldable pub references : List ℕ → Counts → ObjectRecord → References

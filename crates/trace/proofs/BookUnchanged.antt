@@ -68,7 +68,7 @@ module _ (t : List ℕ) (c : Counts) where
   -- an object's row, where a send object keeps old and count
   pub unchanged-object : (m : List ℕ) → Ready t c m → (j : ℕ) → j < c .objects → (s : ObjectState)
       → (objectRecord t (c .ipdus) j .kind ≡ sending
-      → ObjectKept (objectRecord t (c .ipdus) j .depth) (Rattle.table.specs.Check.depths t c j) s
+      → ObjectKept (objectRecord t (c .ipdus) j) (Rattle.table.specs.Check.depths t c j) s
       × (s .old ≡ objectState m j .old)
       × (s .occurrence ≡ objectState m j .occurrence))
       → BookUnchanged m (withObjectState m j s)
@@ -210,7 +210,7 @@ module _ (t : List ℕ) (c : Counts) where
       queued b = pick b (replaced (placeAt (object t c i .depth) (objectState m i) (objectState m i .count)) (bytesOf 4 v) m) m
 
       row : ObjectState
-      row = delivered (passesFilter (object t c i) v (objectState m i)) (object t c i .depth) v (objectState m i)
+      row = delivered (passesFilter (object t c i) v (objectState m i)) (object t c i) v (objectState m i)
 
       queue-same : (b : Bool) → BookUnchanged t c m (pick b (replaced (placeAt (object t c i .depth) (objectState m i) (objectState m i .count)) (bytesOf 4 v) m) m)
       queue-same true =
@@ -258,7 +258,7 @@ module _ (t : List ℕ) (c : Counts) where
       unchanged-pick (eqb (objectRecord t (c .ipdus) j .ipdu) k) l (withObjectState l j (marked mark (objectState l j)))
       (λ e.
       unchanged-object t c l r j b (marked mark (objectState l j))
-      (λ one. (kept-marked (objectRecord t (c .ipdus) j .depth) (depths t c j) mark (objectState l j) low (ready-kept t c l r j b), refl, refl))))
+      (λ one. (kept-marked (objectRecord t (c .ipdus) j) (depths t c j) mark (objectState l j) low (ready-kept t c l r j b), refl, refl))))
 
   -- a request that a send wants, made or postponed
   pub unchanged-request : (i : ℕ) → isObject t c sending i ≡ true → (area m : List ℕ) → Ready t c m → BookUnchanged t c m (request t (object t c i) area m .memory)

@@ -40,13 +40,13 @@ module _ (t : List ℕ) (c : Counts) where
   -- ---- initialise
 
   module _ (b : Book) (m : List ℕ) (a : Refines t c b m) (i v : ℕ) (small : v < 2 ^ 32) (h : i < c .objects) where
-    own : ObjectKept (objectRecord t (c .ipdus) i .depth) (depths t c i) (objectState m i)
+    own : ObjectKept (objectRecord t (c .ipdus) i) (depths t c i) (objectState m i)
     own = ready-kept t c m (a .ready) i h
 
     initialise-send : objectRecord t (c .ipdus) i .kind ≡ sending
         → Refines t c (record { entries = enter i v (b .entries); counts = b .counts; stopped = b .stopped }) (initialiseAs Send (object t c i) i v m)
     initialise-send one =
-        refines-entry t c b m a i h v (withOld v (objectState m i)) (kept-old (objectRecord t (c .ipdus) i .depth) (depths t c i) v (objectState m i) small own) (b .counts) refl
+        refines-entry t c b m a i h v (withOld v (objectState m i)) (kept-old (objectRecord t (c .ipdus) i) (depths t c i) v (objectState m i) small own) (b .counts) refl
         (a .count i h one) (λ j ne. refl)
 
     initialise-receive : (objectRecord t (c .ipdus) i .kind ≡ sending → ⊥) → Refines t c b (initialiseAs Receive (object t c i) i v m)
@@ -115,7 +115,7 @@ module _ (t : List ℕ) (c : Counts) where
         (λ e.
         let h = ltb-true i (c .objects) e in
         unchanged-object t c m ready i h (withMarks 0 (objectState m i))
-        (λ one. (kept-marks (objectRecord t (c .ipdus) i .depth) (depths t c i) 0 (objectState m i) (omega arith) (ready-kept t c m ready i h), refl, refl)))
+        (λ one. (kept-marks (objectRecord t (c .ipdus) i) (depths t c i) 0 (objectState m i) (omega arith) (ready-kept t c m ready i h), refl, refl)))
         as-found
 
     pub unchanged-periodic : (on : Bool) → BookUnchanged t c m (periodicIn on t c m .memory)

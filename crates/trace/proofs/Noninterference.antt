@@ -132,7 +132,7 @@ module _ (t : List ℕ) (c : Counts) (accepted : check t ≡ Accepted c) (bt : B
                 answer = ap (λ (o : Outcome). o .answer) x ∙ sym (ap (λ (o : Outcome). o .answer) y);
                 memory =
                     ap (λ (o : Outcome). o .memory) x
-                    ∙ ap (λ (l : List ℕ). withObjectState l i (counted (objectState l i))) alike
+                    ∙ ap (λ (l : List ℕ). withObjectState l i (counted (object t c i .filter) (objectState l i))) alike
                     ∙ sym (ap (λ (o : Outcome). o .memory) y);
                 size = size;
               }

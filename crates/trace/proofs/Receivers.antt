@@ -191,7 +191,7 @@ module _ (t : List ℕ) (c : Counts) (j : ℕ) (low : j < c .objects) where
 
   -- by one delivery of a value that passes its filter
   module _ (v : ℕ) (m n : List ℕ) (ready : Ready t c m) (small : v < 2 ^ 32) (passes : passesFilter (object t c j) v (objectState m j) ≡ true) where
-    pub reached : objectState n j ≡ delivered (passesFilter (object t c j) v (objectState m j)) (object t c j .depth) v (objectState m j)
+    pub reached : objectState n j ≡ delivered (passesFilter (object t c j) v (objectState m j)) (object t c j) v (objectState m j)
         → waiting (object t c j .depth) j n ≡ waiting (object t c j .depth) j (deliver (object t c j) j v m) → Reached v m n
     reached row queue =
         record {
@@ -200,7 +200,7 @@ module _ (t : List ℕ) (c : Counts) (j : ℕ) (low : j < c .objects) where
         }
       where
         stored : object t c j .depth ≡ 0
-            → delivered (passesFilter (object t c j) v (objectState m j)) (object t c j .depth) v (objectState m j) .value ≡ v
+            → delivered (passesFilter (object t c j) v (objectState m j)) (object t c j) v (objectState m j) .value ≡ v
         stored flat = unfold delivered afterFilter marked in rw (passes, flat)
 
 -- over a layer that runs: a receive gives the value, or it waits behind the others

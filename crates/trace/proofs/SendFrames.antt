@@ -127,11 +127,11 @@ module _ (t : List ℕ) (c : Counts) where
           (deliver (object t c j) j v (fold j (insideTurn t c i v) m)) (fold j (insideTurn t c i v) m) (λ e. absurd (not-inside j b e)) (λ e. refl)
 
   pub send-dropped : (b : Book) (m : List ℕ) → Refines t c b m → (i v : ℕ) → v < 2 ^ 32 → (area : List ℕ) → isObject t c sending i ≡ true
-      → keeps t c b i v ≡ false → inside t c i ≡ false → sendIn t c i v area m ≡ outcome (Done 0) (withObjectState m i (counted (objectState m i))) area
+      → keeps t c b i v ≡ false → inside t c i ≡ false → sendIn t c i v area m ≡ outcome (Done 0) (withObjectState m i (counted (object t c i .filter) (objectState m i))) area
   send-dropped b m a i v small area is drop none =
       let p : judge t c m (a .ready) i is v small area ≡ false = judge-is t c b m a i is v small area ∙ drop in
       let same = none-inside i v (object-there t c sending i is) none m (a .ready .right) in
       sent-as t c m (a .ready) i is v small area false p
       ∙ ap (λ (s : ObjectState). outcome (Done 0) (withObjectState (deliverInside t c i v m) i s) area)
-      (filtered-out (judge t c m (a .ready) i is v small area) v (objectState (deliverInside t c i v m) i) p)
-      ∙ ap (λ (l : List ℕ). outcome (Done 0) (withObjectState l i (counted (objectState l i))) area) same
+      (filtered-out (judge t c m (a .ready) i is v small area) (object t c i) v (objectState (deliverInside t c i v m) i) p)
+      ∙ ap (λ (l : List ℕ). outcome (Done 0) (withObjectState l i (counted (object t c i .filter) (objectState l i))) area) same

@@ -11,10 +11,11 @@ use lib.ListN.{length}
 use Rattle.memory.specs.Bytes.{value, part, numberAt}
 use Rattle.memory.specs.Search.{pick}
 use Rattle.memory.proofs.Tests.{eq-or-ne, true-or-false}
-use Rattle.filter.specs.Filters.{nextOccurrence, passes}
+use Rattle.filter.specs.Filters.{nextCount, passes}
 use Rattle.table.specs.declared.Counts.{Counts}
 use Rattle.table.specs.Records.{sending, objectRecord}
 use Rattle.table.specs.Check.{depths}
+use Rattle.config.specs.declared.Object.{Object}
 use Rattle.config.specs.Decode.{objectOf}
 use Rattle.state.specs.declared.ObjectState.{ObjectState}
 use Rattle.state.specs.Layout.{rowSize, runningAt, slotAt, objectRow, objectState, withObjectState}
@@ -35,7 +36,7 @@ use Rattle.trace.proofs.BookUnchanged.{unchanged-inside, unchanged-requ
 -- ---- a row of a send object set, and perhaps its value packed
 
 module _ (t : List ℕ) (c : Counts) (m : List ℕ) (ready : Ready t c m) (i : ℕ) (h : i < c .objects) (s : ObjectState)
-    (kept : ObjectKept (objectRecord t (c .ipdus) i .depth) (depths t c i) s) where
+    (kept : ObjectKept (objectRecord t (c .ipdus) i) (depths t c i) s) where
   room : objectRow i + rowSize ≤ length m
   room = object-row t c m ready i h
 
@@ -63,7 +64,7 @@ last-other i j v es ne = rw (ne-eqb i j (λ e. ne (sym e)))
 -- ---- an entry: the row's old value set, and the value packed
 
 module _ (t : List ℕ) (c : Counts) (b : Book) (m : List ℕ) (a : Refines t c b m) (i : ℕ) (h : i < c .objects) (v : ℕ) (s : ObjectState)
-    (kept : ObjectKept (objectRecord t (c .ipdus) i .depth) (depths t c i) s) where
+    (kept : ObjectKept (objectRecord t (c .ipdus) i) (depths t c i) s) where
   -- with old set to the value
   pub refines-entry : (n : ℕ → ℕ) → s .old ≡ v → s .occurrence ≡ n i → ((j : ℕ) → (j ≡ i → ⊥) → n j ≡ b .counts j)
       → Refines t c (record { entries = enter i v (b .entries); counts = n; stopped = b .stopped }) (pack (object t c i) v (withObjectState m i s))
@@ -121,19 +122,19 @@ module _ (t : List ℕ) (c : Counts) (b : Book) (m : List ℕ) (a : Refines t c 
 
 -- ---- send
 
-filtered-passed : (b : Bool) (v : ℕ) (s : ObjectState) → b ≡ true → afterFilter b v s .old ≡ v
+filtered-passed : (b : Bool) (o : Object) (v : ℕ) (s : ObjectState) → b ≡ true → afterFilter b o v s .old ≡ v
 unfolding afterFilter
-filtered-passed b v s e = rw e
+filtered-passed b o v s e = rw e
 
 -- a dropped value leaves the count alone changed
-pub filtered-out : (b : Bool) (v : ℕ) (s : ObjectState) → b ≡ false → afterFilter b v s ≡ Rattle.state.specs.Updates.counted s
+pub filtered-out : (b : Bool) (o : Object) (v : ℕ) (s : ObjectState) → b ≡ false → afterFilter b o v s ≡ Rattle.state.specs.Updates.counted (o .filter) s
 unfolding afterFilter
-filtered-out b v s e = rw e
+filtered-out b o v s e = rw e
 
-filtered-count : (b : Bool) (v : ℕ) (s : ObjectState) → afterFilter b v s .occurrence ≡ nextOccurrence (s .occurrence)
+filtered-count : (b : Bool) (o : Object) (v : ℕ) (s : ObjectState) → afterFilter b o v s .occurrence ≡ nextCount (o .filter) (s .occurrence)
 unfolding afterFilter
-filtered-count true v s = refl
-filtered-count false v s = refl
+filtered-count true o v s = refl
+filtered-count false o v s = refl
 
 module _ (t : List ℕ) (c : Counts) (b : Book) (m : List ℕ) (a : Refines t c b m) (i : ℕ) (is : isObject t c sending i ≡ true) (v : ℕ) (small : v < 2 ^ 32)
     (area : List ℕ) where
@@ -147,15 +148,15 @@ module _ (t : List ℕ) (c : Counts) (b : Book) (m : List ℕ) (a : Refines t c 
   first = inner t c m (a .ready) i is v small area
 
   abbrev row : ObjectState
-  row = afterFilter (judge t c m (a .ready) i is v small area) v (objectState first i)
+  row = afterFilter (judge t c m (a .ready) i is v small area) (object t c i) v (objectState first i)
 
   first-agrees : Refines t c b (inner t c m (a .ready) i is v small area)
   first-agrees =
       refines-unchanged t c b m first a (inner-ready t c m (a .ready) i is v small area) (unchanged-inside t c i v low small m (a .ready))
 
-  row-kept : ObjectKept (objectRecord t (c .ipdus) i .depth) (depths t c i) (afterFilter (judge t c m (a .ready) i is v small area) v (objectState first i))
+  row-kept : ObjectKept (objectRecord t (c .ipdus) i) (depths t c i) (afterFilter (judge t c m (a .ready) i is v small area) (object t c i) v (objectState first i))
   row-kept =
-      kept-after-filter (objectRecord t (c .ipdus) i .depth) (depths t c i) (judge t c m (a .ready) i is v small area) v (objectState first i) small
+      kept-after-filter (objectRecord t (c .ipdus) i) (depths t c i) (judge t c m (a .ready) i is v small area) v (objectState first i) small
       (ready-kept t c first (first-agrees .ready) i low)
 
   -- the layer's filter judges as the book does
@@ -163,13 +164,14 @@ module _ (t : List ℕ) (c : Counts) (b : Book) (m : List ℕ) (a : Refines t c 
   unfolding objectOf
   judge-is = ap₂ (λ (old n : ℕ). passes (object t c i .filter) v old n) (first-agrees .old i low one) (first-agrees .count i low one)
 
-  count-own : row .occurrence ≡ nextCounts i (b .counts) i
+  count-own : row .occurrence ≡ nextCounts t c i (b .counts) i
+  unfolding objectOf
   count-own =
-      filtered-count (judge t c m (a .ready) i is v small area) v (objectState first i)
-      ∙ ap nextOccurrence (first-agrees .count i low one)
-      ∙ sym (ap (λ (x : Bool). pick x (nextOccurrence (b .counts i)) (b .counts i)) (eq-eqb i i refl))
+      filtered-count (judge t c m (a .ready) i is v small area) (object t c i) v (objectState first i)
+      ∙ ap (nextCount (object t c i .filter)) (first-agrees .count i low one)
+      ∙ sym (ap (λ (x : Bool). pick x (nextCount (object t c i .filter) (b .counts i)) (b .counts i)) (eq-eqb i i refl))
 
-  count-other : (j : ℕ) → (j ≡ i → ⊥) → nextCounts i (b .counts) j ≡ b .counts j
+  count-other : (j : ℕ) → (j ≡ i → ⊥) → nextCounts t c i (b .counts) j ≡ b .counts j
   count-other j ne = rw (ne-eqb j i ne)
 
   -- a request changes nothing that the book speaks of
@@ -182,14 +184,14 @@ module _ (t : List ℕ) (c : Counts) (b : Book) (m : List ℕ) (a : Refines t c 
       ⊎-elim
       (λ (p : judge t c m (a .ready) i is v small area ≡ true).
       rw (sent-as t c m (a .ready) i is v small area true p, sym judge-is ∙ p)
-      (request-agrees (record { entries = enter i v (b .entries); counts = nextCounts i (b .counts); stopped = b .stopped })
+      (request-agrees (record { entries = enter i v (b .entries); counts = nextCounts t c i (b .counts); stopped = b .stopped })
       (pack (object t c i) v (withObjectState first i row))
-      (refines-entry t c b first first-agrees i low v row row-kept (nextCounts i (b .counts))
-      (filtered-passed (judge t c m (a .ready) i is v small area) v (objectState first i) p) count-own count-other)))
+      (refines-entry t c b first first-agrees i low v row row-kept (nextCounts t c i (b .counts))
+      (filtered-passed (judge t c m (a .ready) i is v small area) (object t c i) v (objectState first i) p) count-own count-other)))
       (λ (p : judge t c m (a .ready) i is v small area ≡ false).
       rw (sent-as t c m (a .ready) i is v small area false p, sym judge-is ∙ p)
-      (refines-dropped t c b first first-agrees i low v row row-kept (nextCounts i (b .counts))
-      (ap (λ (s : ObjectState). s .old) (filtered-out (judge t c m (a .ready) i is v small area) v (objectState first i) p)) count-own count-other))
+      (refines-dropped t c b first first-agrees i low v row row-kept (nextCounts t c i (b .counts))
+      (ap (λ (s : ObjectState). s .old) (filtered-out (judge t c m (a .ready) i is v small area) (object t c i) v (objectState first i) p)) count-own count-other))
       (true-or-false (judge t c m (a .ready) i is v small area))
 
 pub refines-send : (t : List ℕ) (c : Counts) (b : Book) (m : List ℕ) → Refines t c b m → (i v : ℕ) → v < 2 ^ 32 → (area : List ℕ)

@@ -7,11 +7,11 @@ use lib.Dec.{leb, ltb, eqb}
 use lib.ListN.{length}
 use Rattle.memory.specs.Search.{pick, least, fold}
 use Rattle.bits.specs.Bits.{bit, place, owns}
-use Rattle.filter.specs.Filters.{passes, nextOccurrence, filterOf}
+use Rattle.filter.specs.Filters.{passes, nextCount}
 use Rattle.table.specs.declared.Counts.{Counts}
 use Rattle.table.specs.declared.ObjectRecord.{ObjectRecord}
 use Rattle.table.specs.Records.{sending, objectRecord}
-use Rattle.table.specs.Rules.{orderOf}
+use Rattle.table.specs.Rules.{orderOf, recordFilter}
 use Rattle.layer.specs.Step.{Call, Told, toldStart, toldStop, toldSend, toldInitialise, toldNothing, lentBytes, describe}
 use Rattle.state.specs.Layout.{areaSize}
 
@@ -53,19 +53,19 @@ lastOf i [] = 0
 lastOf i (e ∷ es) = pick (eqb (e .object) i) (e .value) (lastOf i es)
 
 abbrev pub judges : ObjectRecord → ℕ → ℕ → ℕ → Bool
-judges r new old count = passes (filterOf (r .filter) (r .first) (r .second)) new old count
+judges r new old count = passes (recordFilter r) new old count
 
 abbrev pub keeps : List ℕ → Counts → Book → ℕ → ℕ → Bool
 keeps t c b i v = judges (objectRecord t (c .ipdus) i) v (lastOf i (b .entries)) (b .counts i)
 
-abbrev pub nextCounts : ℕ → (ℕ → ℕ) → ℕ → ℕ
-nextCounts i counts j = pick (eqb j i) (nextOccurrence (counts j)) (counts j)
+abbrev pub nextCounts : List ℕ → Counts → ℕ → (ℕ → ℕ) → ℕ → ℕ
+nextCounts t c i counts j = pick (eqb j i) (nextCount (recordFilter (objectRecord t (c .ipdus) j)) (counts j)) (counts j)
 
 abbrev pub afterSend : List ℕ → Counts → Book → ℕ → ℕ → Book
 afterSend t c b i v =
     record {
       entries = pick (keeps t c b i v) (enter i v (b .entries)) (b .entries);
-      counts = nextCounts i (b .counts);
+      counts = nextCounts t c i (b .counts);
       stopped = b .stopped;
     }
 

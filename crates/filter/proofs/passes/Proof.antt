@@ -1,7 +1,8 @@
--- `filter::passes`: each arm is the definition's clause for its filter; a period is above 0 by the `requires`.
+-- `filter::passes`: each arm is the definition's clause for its filter; a count in its range needs no remainder (`every-passes`).
 -- Assumes nothing.
 use Rattle.filter.specs.Filters.{passes}
 use borrow.Author.Needs.{needs}
+use Rattle.filter.proofs.Laws.{every-passes}
 use Rattle.filter.proofs.passes.Statement.{statement}
 use Rattle.filter.proofs.passes.Tie as tie
 
@@ -25,7 +26,6 @@ passes-spec =
     (λ c. search needs)
     (λ c. search needs)
     (λ c. search needs)
-    (λ c. rw (c .before .filter7 .given .1) at (c .before .before .before .pre))
     (λ c. rw (c .enum-told .given .1))
     (λ c. rw (c .enum-told2 .given .1))
     (λ c. rw (c .before .filter .given .1))
@@ -40,4 +40,6 @@ passes-spec =
     (λ c. rw (c .enum-told6 .given .1))
     (λ c. rw (c .enum-told7 .given .1))
     (λ c. rw (c .enum-told8 .given .1))
-    (λ c. rw (c .before .filter7 .given .1)))
+    (λ c.
+    let at-start = c .before .before .before in
+    every-passes _ _ _ (at-start .args .new) (at-start .args .old) (at-start .args .count) (c .before .filter7 .given .1) (at-start .pre)))

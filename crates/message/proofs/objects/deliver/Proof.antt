@@ -3,6 +3,7 @@
 use borrow.Author.Needs.{needs}
 use Rattle.message.specs.Objects.{deliver}
 use Rattle.queue.proofs.RingPlaces.{held-row, held-row-after, held-queue, held-head, held-count, newest-room}
+use Rattle.message.proofs.ObjectSteps.{count-read}
 use Rattle.message.proofs.objects.deliver.Statement.{statement}
 use Rattle.message.proofs.objects.deliver.Tie as tie
 
@@ -12,10 +13,10 @@ deliver-spec =
     tie.close
     (tie.spec
     (λ c κs. search (needs, held-row))
-    (λ c κs. search needs)
+    (λ c κs. search (needs, count-read))
     (λ c κs. (search (needs, held-queue), search (needs, held-head), search (needs, held-count)))
     (λ c κs. search (needs, newest-room))
-    (λ c κs. search needs)
+    (λ c κs. search (needs, count-read))
     (λ c κs. search (needs, held-row-after))
     (λ c. search needs)
     (λ c. cc))

@@ -14,12 +14,12 @@ delivered-spec =
     (λ c κs. search needs)
     (λ c. rw (← c .before .after-filter .ensures, not-true (c .before .before .args .passed) (c .if1 .taken)))
     (λ c.
-    let at-passed = c .before .before in
+    let at-passed = c .before .before .before in
     rw (← at-passed .before .after-filter .ensures, not-false (at-passed .before .before .args .passed) (at-passed .if1 .left), eq-eqb _ _ (c .before .if2 .taken)))
     (λ c. search needs)
     (λ c.
-    let at-queued = c .before .before .before .before in
-    let at-passed = at-queued .before in
+    let at-queued = c .before .before .before .before .before in
+    let at-passed = at-queued .before .before in
     rw (
       ← at-passed .before .after-filter .ensures,
       not-false (at-passed .before .before .args .passed) (at-passed .if1 .left),
@@ -27,10 +27,11 @@ delivered-spec =
       lt-ltb _ _ (c .before .before .if3 .taken),
     ))
     (λ c.
-    let at-passed = c .before .before .before in
+    let at-queued = c .before .before .before in
+    let at-passed = at-queued .before .before in
     rw (
       ← at-passed .before .after-filter .ensures,
       not-false (at-passed .before .before .args .passed) (at-passed .if1 .left),
-      ne-eqb _ _ (c .before .before .if2 .left),
+      ne-eqb _ _ (at-queued .if2 .left),
       le-ltb _ _ (c .if3 .left),
     )))

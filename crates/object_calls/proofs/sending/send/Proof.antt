@@ -2,9 +2,8 @@
 -- Assumes nothing.
 use borrow.Author.Needs.{needs}
 use Rattle.calls.specs.Calls.{sendIn}
-use Rattle.message.proofs.ObjectsInRange.{decoded-period}
 use Rattle.memory.proofs.Tests.{not-found}
-use Rattle.calls.proofs.Outcomes.{found-record, found-start, found-object, found-row-after, found-placed-after, found-has-ipdu, send-dropped, send-passed}
+use Rattle.calls.proofs.Outcomes.{found-record, found-start, found-row-after, found-count, found-placed-after, found-has-ipdu, send-dropped, send-passed}
 use Rattle.object_calls.proofs.sending.send.Statement.{statement}
 use Rattle.object_calls.proofs.sending.send.Tie as tie
 
@@ -17,7 +16,7 @@ send-spec =
     (λ c. search (needs, not-found))
     (λ c κs. (search (needs, found-record), search (needs, found-start)))
     (λ c κs. search needs)
-    (λ c κs. (search (needs, found-row-after), search (needs, decoded-period, found-object)))
+    (λ c κs. (search (needs, found-row-after), search (needs, found-count)))
     (λ c. search needs)
     (λ c. search (needs, send-dropped))
     (λ c κs. search (needs, found-placed-after))

@@ -1,0 +1,102 @@
+-- W-203: which filterings of an object passed, read off a list of calls and groups; of any N in a row of an object with filter 14 and
+-- period N exactly one did.
+-- Assumes nothing.
+use mathlib.Core.Bool.{Bool, true, false, _&&_, _||_}
+use mathlib.Core.List.{List, [], _∷_, _++_}
+use mathlib.Core.Path.{_≡_}
+use Prim.Native.Nat.{ℕ, zero, suc, _+_, _%_, _<_}
+use lib.Dec.{eqb}
+use lib.ListN.{length}
+use Rattle.memory.specs.Search.{pick}
+use Rattle.table.specs.declared.Counts.{Counts}
+use Rattle.table.specs.Records.{counts, objectRecord}
+use Rattle.state.specs.Layout.{objectState}
+use Rattle.message.specs.Objects.{object, passesFilter}
+use Rattle.calls.specs.Answers.{numberOf}
+use Rattle.layer.specs.Admission.{workingMemory}
+use Rattle.layer.specs.Step.{Call, start, stop, send, initialise, receive, status, marks, clearMarks, startPeriodic, stopPeriodic, indication, confirm, tick, step}
+use Rattle.group.specs.Groups.{groupStep}
+use Rattle.trace.specs.Actions.{Action, single, group, leaves, groupSends, memoryAfterAll}
+use Rattle.trace.specs.Demand3.{ActionsTyped, done}
+use Rattle.trace.specs.RoundTrip.{readingIn}
+
+-- ---- the filterings of object i, in the order of the calls: whether each passed
+
+-- the values of object i that a call filters, one or none: a send filters its own object's and that of each receiver inside, a good
+-- indication that of each object of its I-PDU
+abbrev pub filteredValues : List ℕ → Counts → ℕ → Call → List ℕ
+filteredValues t c i (send j v area) = pick (eqb i j || eqb (objectRecord t (c .ipdus) i .sender) j) (v ∷ []) []
+filteredValues t c i (indication k good bytes) =
+    pick (good && eqb (objectRecord t (c .ipdus) i .ipdu) k) (readingIn (objectRecord t (c .ipdus) i) bytes ∷ []) []
+filteredValues t c i start = []
+filteredValues t c i stop = []
+filteredValues t c i (initialise j v) = []
+filteredValues t c i (receive j) = []
+filteredValues t c i (status j) = []
+filteredValues t c i (marks j) = []
+filteredValues t c i (clearMarks j) = []
+filteredValues t c i startPeriodic = []
+filteredValues t c i stopPeriodic = []
+filteredValues t c i (confirm k good) = []
+filteredValues t c i (tick area) = []
+
+-- judged by the old value and the count that the object then has
+abbrev pub judged : List ℕ → Counts → ℕ → List ℕ → List ℕ → List Bool
+judged t c i m [] = []
+judged t c i m (v ∷ vs) = passesFilter (object t c i) v (objectState m i) ∷ []
+
+-- a refused call filters nothing
+abbrev pub filteredBy : List ℕ → ℕ → Call → List ℕ → List Bool
+filteredBy t i call m = pick (done (step t call m)) (judged t (counts t) i (workingMemory m) (filteredValues t (counts t) i call)) []
+
+abbrev pub filteredIn : List ℕ → ℕ → List Call → List ℕ → List Bool
+filteredIn t i [] m = []
+filteredIn t i (call ∷ calls) m = filteredBy t i call m ++ filteredIn t i calls (step t call m .memory)
+
+-- a group filters as its sends do, a refused one nothing
+abbrev pub actionFilters : List ℕ → ℕ → Action → List ℕ → List Bool
+actionFilters t i (single call) m = filteredBy t i call m
+actionFilters t i (group g) m = pick (eqb (numberOf (groupStep t g m .answer)) 0) (filteredIn t i (groupSends g) m) []
+
+abbrev pub filterings : List ℕ → ℕ → List Action → List ℕ → List Bool
+filterings t i [] m = []
+filterings t i (x ∷ xs) m = actionFilters t i x m ++ filterings t i xs (leaves t x m)
+
+-- ---- the claim
+
+-- how many passed
+abbrev pub passed : List Bool → ℕ
+passed [] = 0
+passed (true ∷ bs) = suc (passed bs)
+passed (false ∷ bs) = passed bs
+
+-- no start
+abbrev pub NoStart : List Action → Type 0
+NoStart [] = Unit {0}
+NoStart (x ∷ xs) = (x ≡ single start → ⊥) × NoStart xs
+
+-- an object of the table, sent or received, with filter 14 and these constants
+pub record OneEvery (t : List ℕ) (i period offset : ℕ) : Type 0 where
+  pub low : i < counts t .objects
+  pub filter : objectRecord t (counts t .ipdus) i .filter ≡ 14
+  pub period : objectRecord t (counts t .ipdus) i .first ≡ period
+  pub offset : objectRecord t (counts t .ipdus) i .second ≡ offset
+
+-- an accepted start, then any list, then one with no start in it: of its filterings of the object any `period` in a row have one that passed
+abbrev pub OneInN : List ℕ → Type 0
+OneInN t =
+    (xs ys : List Action) → ActionsTyped xs → ActionsTyped ys → NoStart ys → (m : List ℕ) → done (step t start m) ≡ true
+    → (i period offset : ℕ) → OneEvery t i period offset
+    → (before row after : List Bool) → filterings t i ys (memoryAfterAll t (single start ∷ xs) m) ≡ before ++ row ++ after → length row ≡ period → passed row ≡ 1
+
+-- and which: that with number n passed where n mod period is the offset
+abbrev pub turns : (period offset n : ℕ) → ℕ → List Bool
+turns period offset n zero = []
+turns period offset n (suc more) = eqb (n % period) offset ∷ turns period offset (n + 1) more
+
+-- numbered from the start on, with 0
+abbrev pub InTurn : List ℕ → Type 0
+InTurn t =
+    (xs : List Action) → ActionsTyped xs → NoStart xs → (m : List ℕ) → done (step t start m) ≡ true
+    → (i period offset : ℕ) → OneEvery t i period offset
+    → filterings t i xs (step t start m .memory) ≡ turns period offset 0 (length (filterings t i xs (step t start m .memory)))
