@@ -18,6 +18,7 @@ use Rattle.table.specs.Check.{check}
 use Rattle.table.proofs.Accepted.{accepted-right}
 use Rattle.state.specs.Layout.{memorySize, slotAt, objectState, withObjectState}
 use Rattle.state.specs.Updates.{counted}
+use Rattle.message.specs.Objects.{object}
 use Rattle.calls.specs.Answers.{Outcome, numberOf, valueOf}
 use Rattle.calls.specs.Calls.{isObject, sendIn}
 use Rattle.calls.specs.Tick.{tickIn}

@@ -9,25 +9,15 @@ use native.Mathlib.Omega.{arith}
 use borrow.Author.Tests.{ltb-true, eq-eqb}
 use lib.Dec.{ltb}
 use lib.ListN.{length, replicate}
-use Rattle.memory.specs.Bytes.{Bytes, value, bytesOf, part, numberAt, replaced}
+use Rattle.memory.specs.Bytes.{Bytes, value, bytesOf, part, numberAt}
 use Rattle.memory.proofs.Tests.{and-split, true-not-false}
-use Rattle.bits.specs.Bits.{bit, frameBit, place, room, number, frameOf, written, packed, unpacked, owns}
-use Rattle.bits.specs.Slots.{position}
-use Rattle.filter.specs.Filters.{passes, filterOf, filterRight}
+use Rattle.bits.specs.Bits.{bit, frameBit, place, owns}
+use Rattle.filter.specs.Filters.{passes, filterOf}
 use Rattle.table.specs.Records.{sending, counts, ipduRecord, objectRecord}
-use Rattle.table.specs.Rules.{offsetsRight, headerRight, ipduRight, references, objectRight}
-use Rattle.table.specs.Check.{shareBit, overlapsLower, check}
-use Rattle.config.specs.Decode.{ipduOf, objectOf}
-use Rattle.state.specs.Layout.{memorySize, areaSize, runningAt, withRunning, ipduState, withIpduState, objectState, withObjectState}
-use Rattle.state.specs.Ranges.{ipduInRange, objectInRange, inRange}
-use Rattle.message.specs.Objects.{marked, afterFilter, delivered, deliver, pack}
-use Rattle.delivery.specs.Delivery.{deliverInside}
-use Rattle.transmission.specs.Requests.{isDue, requestMade, afterRequest, copiedToArea}
+use Rattle.config.specs.Decode.{objectOf}
+use Rattle.state.specs.Layout.{memorySize, areaSize}
 use Rattle.calls.specs.declared.Answer.the-variants.{Done}
 use Rattle.calls.specs.Answers.{numberOf, valueOf}
-use Rattle.calls.specs.Calls.{wants, request, sendOf, sendIn}
-use Rattle.layer.specs.Admission.{admission, startAdmission}
-use Rattle.startup.specs.Start.{blank, prepared, started}
 use Rattle.layer.specs.Step.{Call, start, stop, send, initialise, receive, status, marks, clearMarks, startPeriodic, stopPeriodic, indication, confirm, tick, toldSend}
 use Rattle.layer.specs.Step.{toldNothing, Told, toldStart, toldStop, toldInitialise, lentBytes, describe, step}
 use Rattle.group.specs.Pairs as given
@@ -35,6 +25,7 @@ use Rattle.group.specs.Pairs.{inRecords}
 use Rattle.group.specs.Groups.{groupOf}
 use Rattle.trace.specs.Book.{Book, unopened, keeps, advance}
 use Rattle.cases.specs.Case.{pair, sendIpdu, receiveIpdu, sendObject, receiveObject}
+use Rattle.cases.proofs.Definitions.{definitions}
 use Rattle.trace.specs.Demand3 as claim
 use Rattle.trace.specs.Actions.{Action, single, group}
 use Rattle.trace.specs.Demand3.{ActionsTyped, Alike, same, areas, ticks, dropped, AllAlike, alikeCalls, ActionsAlike, done}
@@ -180,24 +171,16 @@ n = replicate memorySize 90
 
 -- the start is accepted, over either memory
 pub started-m : done (step table start m) ≡ true
-unfolding
-    value bytesOf part numberAt place room owns filterRight filterOf counts ipduRecord objectRecord
-    offsetsRight headerRight ipduRight references objectRight shareBit overlapsLower check startAdmission step
+unfolding definitions
 started-m = refl
 
 pub started-n : done (step table start n) ≡ true
-unfolding
-    value bytesOf part numberAt place room owns filterRight filterOf counts ipduRecord objectRecord
-    offsetsRight headerRight ipduRight references objectRight shareBit overlapsLower check startAdmission step
+unfolding definitions
 started-n = refl
 
 -- the first send asks for I-PDU 0
 first-word : valueOf (step table (send 0 2748 here) (after (start ∷ []) m) .answer) ≡ 1
-unfolding
-    value bytesOf part numberAt replaced bit frameBit place room number frameOf written packed unpacked owns position passes filterOf filterRight
-    counts ipduRecord objectRecord offsetsRight headerRight ipduRight references objectRight shareBit overlapsLower check ipduOf objectOf
-    runningAt withRunning ipduState withIpduState objectState withObjectState ipduInRange objectInRange inRange marked afterFilter delivered deliver pack
-    deliverInside isDue requestMade afterRequest copiedToArea wants request sendOf sendIn admission startAdmission blank prepared started step
+unfolding definitions
 first-word = refl
 
 requested : claim.names (valueOf (step table (send 0 2748 here) (after (start ∷ []) m) .answer)) 0
@@ -276,9 +259,7 @@ second-not-6 = never-6 table bytes (singles (tick here ∷ send 0 1 here ∷ [])
 
 -- memory of zeros is a stopped layer of this table
 pub zeros-stopped : numberOf (step table (marks 0) (replicate memorySize 0) .answer) ≡ 7
-unfolding
-    value bytesOf part numberAt place room owns filterRight filterOf counts ipduRecord objectRecord offsetsRight headerRight ipduRight references
-    objectRight shareBit overlapsLower check ipduOf runningAt ipduState objectState ipduInRange objectInRange inRange admission step
+unfolding definitions
 zeros-stopped = refl
 
 -- ---- the round trip
@@ -300,9 +281,7 @@ sender : Runs table [] m
 sender = record { typed = tt; accepted = started-m; running = refl }
 
 receiver : Runs other [] n
-unfolding
-    value bytesOf part numberAt place room owns filterRight filterOf counts ipduRecord objectRecord
-    offsetsRight headerRight ipduRight references objectRight shareBit overlapsLower check startAdmission step
+unfolding definitions
 receiver = record { typed = tt; accepted = refl; running = refl }
 
 takes : Takes other 0 2748 (memoryOf other [] n)

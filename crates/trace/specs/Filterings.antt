@@ -75,28 +75,31 @@ abbrev pub NoStart : List Action → Type 0
 NoStart [] = Unit {0}
 NoStart (x ∷ xs) = (x ≡ single start → ⊥) × NoStart xs
 
--- an object of the table, sent or received, with filter 14 and these constants
-pub record OneEvery (t : List ℕ) (i period offset : ℕ) : Type 0 where
+-- an object of the table, sent or received, with filter 14; its period and offset
+pub record Fourteen (t : List ℕ) (i : ℕ) : Type 0 where
   pub low : i < counts t .objects
   pub filter : objectRecord t (counts t .ipdus) i .filter ≡ 14
-  pub period : objectRecord t (counts t .ipdus) i .first ≡ period
-  pub offset : objectRecord t (counts t .ipdus) i .second ≡ offset
 
--- an accepted start, then any list, then one with no start in it: of its filterings of the object any `period` in a row have one that passed
+abbrev pub periodOf : List ℕ → ℕ → ℕ
+periodOf t i = objectRecord t (counts t .ipdus) i .first
+
+abbrev pub offsetOf : List ℕ → ℕ → ℕ
+offsetOf t i = objectRecord t (counts t .ipdus) i .second
+
+-- an accepted start, then any list, then one with no start in it: of its filterings of the object any N in a row, N the period, have
+-- exactly one that passed
 abbrev pub OneInN : List ℕ → Type 0
 OneInN t =
     (xs ys : List Action) → ActionsTyped xs → ActionsTyped ys → NoStart ys → (m : List ℕ) → done (step t start m) ≡ true
-    → (i period offset : ℕ) → OneEvery t i period offset
-    → (before row after : List Bool) → filterings t i ys (memoryAfterAll t (single start ∷ xs) m) ≡ before ++ row ++ after → length row ≡ period → passed row ≡ 1
+    → (i : ℕ) → Fourteen t i → (before row after : List Bool)
+    → filterings t i ys (memoryAfterAll t (single start ∷ xs) m) ≡ before ++ (row ++ after) → length row ≡ periodOf t i → passed row ≡ 1
 
--- and which: that with number n passed where n mod period is the offset
+-- and which: numbered from the start on, with 0, that with number n passed where n mod N is the offset
 abbrev pub turns : (period offset n : ℕ) → ℕ → List Bool
 turns period offset n zero = []
 turns period offset n (suc more) = eqb (n % period) offset ∷ turns period offset (n + 1) more
 
--- numbered from the start on, with 0
 abbrev pub InTurn : List ℕ → Type 0
 InTurn t =
-    (xs : List Action) → ActionsTyped xs → NoStart xs → (m : List ℕ) → done (step t start m) ≡ true
-    → (i period offset : ℕ) → OneEvery t i period offset
-    → filterings t i xs (step t start m .memory) ≡ turns period offset 0 (length (filterings t i xs (step t start m .memory)))
+    (xs : List Action) → ActionsTyped xs → NoStart xs → (m : List ℕ) → done (step t start m) ≡ true → (i : ℕ) → Fourteen t i
+    → filterings t i xs (step t start m .memory) ≡ turns (periodOf t i) (offsetOf t i) 0 (length (filterings t i xs (step t start m .memory)))
