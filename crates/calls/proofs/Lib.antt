@@ -5,3 +5,4 @@ pub mod SlotRows
 pub mod SendParts
 pub mod ReadyKept
 pub mod CountsKept
+pub mod FilteredRows

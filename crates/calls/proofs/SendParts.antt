@@ -16,7 +16,7 @@ use Rattle.config.specs.Decode.{objectOf}
 use Rattle.table.proofs.Accepted.{usable}
 use Rattle.state.specs.Layout.{objectState, withObjectState}
 use Rattle.state.specs.Ranges.{Ready}
-use Rattle.state.proofs.Ready.{ready-kept, ready-object}
+use Rattle.state.proofs.Ready.{ObjectKept, ready-kept, ready-object}
 use Rattle.message.specs.Objects.{object, passesFilter, afterFilter, startBit, pack}
 use Rattle.delivery.specs.Delivery.{deliverInside}
 use Rattle.message.proofs.ObjectsInRange.{kept-after-filter}
@@ -62,10 +62,12 @@ module _ (t : List ℕ) (c : Counts) (m : List ℕ) (ready : Ready t c m) (i : �
   unfolding deliverInside
   inner-ready = ready-inside t c i v (c .objects) small (omega arith) m ready
 
+  pub after-kept : ObjectKept (objectRecord t (c .ipdus) i) (depths t c i) (afterFilter judge (object t c i) v (objectState inner i))
+  after-kept =
+      kept-after-filter (objectRecord t (c .ipdus) i) (depths t c i) judge v (objectState inner i) small (ready-kept t c inner inner-ready i here)
+
   pub after-ready : Ready t c (withObjectState inner i (afterFilter judge (object t c i) v (objectState inner i)))
-  after-ready =
-      ready-object t c inner inner-ready i here (afterFilter judge (object t c i) v (objectState inner i))
-      (kept-after-filter (objectRecord t (c .ipdus) i) (depths t c i) judge v (objectState inner i) small (ready-kept t c inner inner-ready i here))
+  after-ready = ready-object t c inner inner-ready i here (afterFilter judge (object t c i) v (objectState inner i)) after-kept
 
   pub sent-as : (b : Bool) → judge ≡ b
       → sendIn t c i v area m ≡ pick b (request t (object t c i) area (pack (object t c i) v after)) (outcome (Done 0) after area)

@@ -2,11 +2,11 @@
 -- Assumes nothing.
 use mathlib.Core.Bool.{true, false, not, _&&_}
 use mathlib.Core.Logic.{⊎-elim}
-use mathlib.Core.Path.{_≡_, refl, sym}
-use Prim.Native.Nat.{ℕ, zero, suc, _-_, _%_, _≤_, _<_, zero-le}
-use native.Mathlib.Nat.{mod-eq-of-lt}
+use mathlib.Core.Path.{_≡_, refl, sym, ap, _∙_}
+use Prim.Native.Nat.{ℕ, zero, suc, _+_, _-_, _%_, _≤_, _<_, zero-le}
+use native.Mathlib.Nat.{mod-lt, mod-eq-of-lt, mod-self, mod-add-mod}
 use native.Mathlib.Omega.{arith}
-use borrow.Author.Tests.{eqb-true, leb-true, ltb-true, le-leb, lt-leb, not-false}
+use borrow.Author.Tests.{eqb-true, leb-true, ltb-true, ltb-false, le-leb, lt-leb, not-false}
 use lib.Dec.{leb, ltb, eqb}
 use Rattle.memory.proofs.Search.{any-false}
 use Rattle.memory.proofs.Tests.{and-split, true-or-false, lt-or-le, eq-or-ne}
@@ -63,6 +63,31 @@ in-turn (suc p) d n h = let below : n < suc p = omega (arith, h) in rw (mod-eq-o
 pub every-passes : (f : Filter) (p d new old n : ℕ) → f ≡ OneEveryN p d → CountFits f n → eqb n d ≡ passes f new old n
 unfolding passes greatestCount
 every-passes f p d new old n e fits = let low : n ≤ p - 1 = rw e at (fits .low) in rw e (in-turn p d n low)
+
+-- ---- the filter with a period
+
+-- the count is the number of filterings, modulo the period
+pub next-in-turn : (p d n : ℕ) → 0 < p → nextCount (OneEveryN p d) (n % p) ≡ (n + 1) % p
+unfolding nextCount greatestCount
+next-in-turn p d n some =
+    ⊎-elim
+    (λ (e : ltb (n % p) (p - 1) ≡ true).
+    let below : n % p + 1 < p = omega (arith, ltb-true (n % p) (p - 1) e) in
+    rw e (sym (sym (mod-add-mod n p 1) ∙ mod-eq-of-lt below)))
+    (λ (e : ltb (n % p) (p - 1) ≡ false).
+    let last : n % p + 1 ≡ p = omega (arith, ltb-false (n % p) (p - 1) e, mod-lt n some) in
+    rw e (sym (sym (mod-add-mod n p 1) ∙ ap (λ (k : ℕ). k % p) last ∙ mod-self p)))
+    (true-or-false (ltb (n % p) (p - 1)))
+
+pub passes-in-turn : (p d new old n : ℕ) → 0 < p → passes (OneEveryN p d) new old (n % p) ≡ eqb (n % p) d
+unfolding passes
+passes-in-turn p d new old n some = rw (mod-eq-of-lt (mod-lt n some))
+
+pub right-period : (p d : ℕ) → filterRight 14 p d ≡ true → (0 < p) × (d < p)
+unfolding filterRight filterOf
+right-period p d e =
+    let both = and-split (leb 1 p && leb p 255) (ltb d p) e in
+    (leb-true 1 p (and-split (leb 1 p) (leb p 255) (both .0) .0), ltb-true d p (both .1))
 
 -- ---- the constants
 

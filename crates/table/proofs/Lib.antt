@@ -6,3 +6,4 @@ pub mod Verdicts
 pub mod Walk
 pub mod Accepted
 pub mod Pairs
+pub mod Senders

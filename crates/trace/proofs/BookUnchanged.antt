@@ -1,9 +1,9 @@
 -- What the book of demand 3 does not see: internal delivery, delivery of a frame, marks, periods, and the rows of I-PDUs. These change
 -- no old value or count of a send object, no slot of a send I-PDU, and not whether the layer runs.
 -- Assumes nothing.
-use mathlib.Core.Bool.{Bool, true, false, _&&_, _||_}
+use mathlib.Core.Bool.{Bool, true, false}
 use mathlib.Core.List.{List}
-use mathlib.Core.Logic.{_⊎_, inl, inr, ⊎-elim}
+use mathlib.Core.Logic.{inl, inr, ⊎-elim}
 use mathlib.Core.Path.{_≡_, refl, ap, _∙_}
 use Prim.Native.Nat.{ℕ, zero, suc, _+_, _^_, _≤_, _<_}
 use native.Mathlib.Omega.{arith}
@@ -14,15 +14,13 @@ use Rattle.memory.specs.Bytes.{bytesOf, replaced, value, part, numberAt}
 use Rattle.memory.specs.Search.{pick, fold}
 use Rattle.memory.proofs.Parts.{bytesOf-length, part-apart}
 use Rattle.memory.proofs.Search.{picked}
-use Rattle.memory.proofs.Tests.{and-split, or-cases, eq-or-ne, lt-or-le}
+use Rattle.memory.proofs.Tests.{eq-or-ne, lt-or-le}
 use Rattle.table.specs.declared.Counts.{Counts}
-use Rattle.table.specs.declared.ObjectRecord.{ObjectRecord}
 use Rattle.table.specs.Records.{receiving, sending, absent, ipduRecord, objectRecord, mostIpdus}
-use Rattle.table.specs.Rules.{references, sendObject, receiveObject}
-use Rattle.table.specs.Check.{depths, Right}
+use Rattle.table.specs.Check.{depths}
 use Rattle.config.specs.Decode.{objectOf}
 use Rattle.table.proofs.Accepted.{usable}
-use Rattle.table.proofs.Facts.{object-facts}
+use Rattle.table.proofs.Senders.{send-no-sender}
 use Rattle.state.specs.declared.IpduState.{IpduState}
 use Rattle.state.specs.declared.ObjectState.{ObjectState}
 use Rattle.state.specs.Layout.{objectState, withObjectState, ipduState, withIpduState, rowSize, queues, runningAt, slotAt, ipduRow, objectRow}
@@ -152,38 +150,7 @@ module _ (t : List ℕ) (c : Counts) where
           object-read (replaced (slotAt j) f m) m i
           (λ o w e. part-apart (slotAt j) f m (objectRow i + o) w room (inr (omega (arith, few, h, ready .right .shape .ipdus))))
 
--- ---- a send object has no sending object, and an object that has one is received
-
-send-sender : (r : ObjectRecord) → sendObject r ≡ true → r .sender ≡ 255
-send-sender r e =
-    eqb-true (r .sender) 255
-    (and-split (eqb (r .kind) sending) (eqb (r .sender) absent) (and-split (eqb (r .kind) sending && eqb (r .sender) absent) (eqb (r .depth) 0) e .0) .1)
-
-receive-kind : (r : ObjectRecord) → receiveObject r ≡ true → r .kind ≡ receiving
-receive-kind r e =
-    eqb-true (r .kind) receiving
-    (and-split (eqb (r .kind) receiving) (eqb (r .transfer) 0)
-    (and-split (eqb (r .kind) receiving && eqb (r .transfer) 0) (eqb (r .ipdu) absent || eqb (r .sender) absent) e .0) .0)
-
-module _ (t : List ℕ) (c : Counts) (right : Right t c) (i : ℕ) (h : i < c .objects) where
-  kinds : (sendObject (objectRecord t (c .ipdus) i) ≡ true) ⊎ (receiveObject (objectRecord t (c .ipdus) i) ≡ true)
-  kinds =
-      or-cases (sendObject (objectRecord t (c .ipdus) i)) (receiveObject (objectRecord t (c .ipdus) i))
-      (object-facts (objectRecord t (c .ipdus) i) (references t c (objectRecord t (c .ipdus) i)) (right .objects i h) .kinds)
-
-  pub send-no-sender : objectRecord t (c .ipdus) i .kind ≡ sending → objectRecord t (c .ipdus) i .sender ≡ 255
-  send-no-sender one =
-      ⊎-elim
-      (λ (e : sendObject (objectRecord t (c .ipdus) i) ≡ true). send-sender (objectRecord t (c .ipdus) i) e)
-      (λ (e : receiveObject (objectRecord t (c .ipdus) i) ≡ true). absurd (omega (arith, one, receive-kind (objectRecord t (c .ipdus) i) e)))
-      kinds
-
-  pub sender-received : objectRecord t (c .ipdus) i .sender < 255 → objectRecord t (c .ipdus) i .kind ≡ receiving
-  sender-received low =
-      ⊎-elim
-      (λ (e : sendObject (objectRecord t (c .ipdus) i) ≡ true). absurd (omega (arith, low, send-sender (objectRecord t (c .ipdus) i) e)))
-      (λ (e : receiveObject (objectRecord t (c .ipdus) i) ≡ true). receive-kind (objectRecord t (c .ipdus) i) e)
-      kinds
+-- ---- turns and calls
 
 module _ (t : List ℕ) (c : Counts) where
   -- turns that the book does not see

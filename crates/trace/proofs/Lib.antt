@@ -22,3 +22,4 @@ pub mod Entries
 pub mod RoundTrip
 pub mod Receivers
 pub mod Arrivals
+pub mod TurnLaws

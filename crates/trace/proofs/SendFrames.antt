@@ -20,6 +20,7 @@ use Rattle.table.specs.Records.{receiving, sending, objectRecord}
 use Rattle.table.specs.Check.{Right}
 use Rattle.config.specs.Decode.{objectOf}
 use Rattle.table.proofs.Accepted.{usable}
+use Rattle.table.proofs.Senders.{sender-received}
 use Rattle.state.specs.declared.ObjectState.{ObjectState}
 use Rattle.state.specs.Layout.{objectState, withObjectState, areaSize}
 use Rattle.state.specs.Updates.{counted}
@@ -36,7 +37,7 @@ use Rattle.calls.proofs.SendParts.{judge, after, after-ready, sent-as}
 use Rattle.trace.specs.Book.{Book, keeps}
 use Rattle.trace.specs.Demand3.{inside}
 use Rattle.trace.proofs.Refines.{Refines}
-use Rattle.trace.proofs.BookUnchanged.{sender-received, unchanged-request}
+use Rattle.trace.proofs.BookUnchanged.{unchanged-request}
 use Rattle.trace.proofs.SendRefines.{filtered-out, judge-is}
 use Rattle.trace.proofs.FramesInArea.{FramesInArea, in-area-none, in-area-same, request-tried, in-area-more}
 

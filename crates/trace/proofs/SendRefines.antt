@@ -21,13 +21,13 @@ use Rattle.state.specs.declared.ObjectState.{ObjectState}
 use Rattle.state.specs.Layout.{rowSize, runningAt, slotAt, objectRow, objectState, withObjectState}
 use Rattle.state.specs.Ranges.{Ready}
 use Rattle.state.proofs.RowLaws.{object-part, object-stored, object-other}
-use Rattle.state.proofs.Ready.{ObjectKept, kept-fits, object-row, ready-kept, ready-object}
+use Rattle.state.proofs.Ready.{ObjectKept, kept-fits, object-row, ready-object}
 use Rattle.message.specs.Objects.{object, afterFilter, pack}
-use Rattle.message.proofs.ObjectsInRange.{kept-after-filter, ready-pack, ready-placed}
+use Rattle.message.proofs.ObjectsInRange.{ready-pack, ready-placed}
 use Rattle.calls.specs.Calls.{isObject, request, sendIn}
 use Rattle.calls.proofs.Records.{object-kind}
 use Rattle.calls.proofs.SlotRows.{pack-row, pack-front}
-use Rattle.calls.proofs.SendParts.{here, inner, judge, inner-ready, sent-as}
+use Rattle.calls.proofs.SendParts.{here, inner, judge, inner-ready, after-kept, sent-as}
 use Rattle.calls.proofs.ReadyKept.{ready-request}
 use Rattle.trace.specs.Book.{Entry, Book, enter, sends, lastOf, keeps, nextCounts, afterSend}
 use Rattle.trace.proofs.Refines.{Refines, refines-unchanged, pack-bits}
@@ -131,11 +131,6 @@ pub filtered-out : (b : Bool) (o : Object) (v : ℕ) (s : ObjectState) → b ≡
 unfolding afterFilter
 filtered-out b o v s e = rw e
 
-filtered-count : (b : Bool) (o : Object) (v : ℕ) (s : ObjectState) → afterFilter b o v s .occurrence ≡ nextCount (o .filter) (s .occurrence)
-unfolding afterFilter
-filtered-count true o v s = refl
-filtered-count false o v s = refl
-
 module _ (t : List ℕ) (c : Counts) (b : Book) (m : List ℕ) (a : Refines t c b m) (i : ℕ) (is : isObject t c sending i ≡ true) (v : ℕ) (small : v < 2 ^ 32)
     (area : List ℕ) where
   low : i < c .objects
@@ -155,9 +150,7 @@ module _ (t : List ℕ) (c : Counts) (b : Book) (m : List ℕ) (a : Refines t c 
       refines-unchanged t c b m first a (inner-ready t c m (a .ready) i is v small area) (unchanged-inside t c i v low small m (a .ready))
 
   row-kept : ObjectKept (objectRecord t (c .ipdus) i) (depths t c i) (afterFilter (judge t c m (a .ready) i is v small area) (object t c i) v (objectState first i))
-  row-kept =
-      kept-after-filter (objectRecord t (c .ipdus) i) (depths t c i) (judge t c m (a .ready) i is v small area) v (objectState first i) small
-      (ready-kept t c first (first-agrees .ready) i low)
+  row-kept = after-kept t c m (a .ready) i is v small area
 
   -- the layer's filter judges as the book does
   pub judge-is : judge t c m (a .ready) i is v small area ≡ keeps t c b i v
