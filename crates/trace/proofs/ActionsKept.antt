@@ -47,7 +47,7 @@ module _ (t : List ℕ) (c : Counts) (accepted : check t ≡ Accepted c) (bt : B
           by true = list-follows t c accepted bt (groupSends g) y b m f
           by false = f
 
-      group-kept : GroupKept t c b g m (groupStep t g m)
+      pub group-kept : GroupKept t c b g m (groupStep t g m)
       group-kept = by (group-does t c accepted bt b g m f)
         where
           by : GroupDoes t c accepted bt b g m → GroupKept t c b g m (groupStep t g m)
@@ -82,6 +82,10 @@ module _ (t : List ℕ) (c : Counts) (accepted : check t ≡ Accepted c) (bt : B
     action-kept (group g) y = group-kept g y
 
   -- ---- a list of actions
+
+  pub actions-follow : (xs : List Action) → ActionsTyped xs → (b : Book) (m : List ℕ) → Follows t c b m → Follows t c (bookAfterAll t c b xs) (memoryAfterAll t xs m)
+  actions-follow [] y b m f = f
+  actions-follow (x ∷ xs) y b m f = actions-follow xs (y .1) (advanceBy t c b x) (leaves t x m) (action-follows b m f x (y .0))
 
   pub actions-kept : (xs : List Action) → ActionsTyped xs → (b : Book) (m : List ℕ) → Follows t c b m → ActionsKept t c b xs m
   actions-kept [] y b m f = tt

@@ -23,3 +23,5 @@ pub mod RoundTrip
 pub mod Receivers
 pub mod Arrivals
 pub mod TurnLaws
+pub mod Filtered
+pub mod OneInN

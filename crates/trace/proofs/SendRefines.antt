@@ -27,6 +27,7 @@ use Rattle.message.proofs.ObjectsInRange.{ready-pack, ready-placed}
 use Rattle.calls.specs.Calls.{isObject, request, sendIn}
 use Rattle.calls.proofs.Records.{object-kind}
 use Rattle.calls.proofs.SlotRows.{pack-row, pack-front}
+use Rattle.calls.proofs.FilteredRows.{filtered-count}
 use Rattle.calls.proofs.SendParts.{here, inner, judge, inner-ready, after-kept, sent-as}
 use Rattle.calls.proofs.ReadyKept.{ready-request}
 use Rattle.trace.specs.Book.{Entry, Book, enter, sends, lastOf, keeps, nextCounts, afterSend}

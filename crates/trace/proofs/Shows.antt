@@ -82,7 +82,7 @@ module _ (t : List ℕ) (c : Counts) where
 
   -- ---- what a send and an initialise are done for
 
-  send-done : (i v : ℕ) (area m : List ℕ) → done (sendIn t c i v area m) ≡ isObject t c sending i
+  pub send-done : (i v : ℕ) (area m : List ℕ) → done (sendIn t c i v area m) ≡ isObject t c sending i
   unfolding sendIn sendOf request
   send-done i v area m =
       ⊎-elim

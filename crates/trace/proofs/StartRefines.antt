@@ -25,6 +25,7 @@ use Rattle.config.specs.Decode.{objectOf}
 use Rattle.state.specs.declared.ObjectState.{ObjectState}
 use Rattle.state.specs.Layout.{rowSize, memorySize, slotAt, objectRow, objectState, withObjectState}
 use Rattle.state.proofs.RowLaws.{ipdu-part, object-part, object-length, object-stored, object-other}
+use Rattle.state.proofs.Running.{running-row}
 use Rattle.message.specs.Objects.{object, Placed}
 use Rattle.message.proofs.ObjectsInRange.{right-placed}
 use Rattle.transmission.specs.Requests.{ipdu}
@@ -190,3 +191,9 @@ module _ (t : List ℕ) (c : Counts) (right : Right t c) (bt : Bytes t) where
   pub refines-start : Refines t c (opened t c) (started t c)
   unfolding started
   refines-start = refines-running t c (record { entries = opened t c .entries; counts = opened t c .counts; stopped = true }) (prepared t c) refines-prepared false
+
+  -- no value was filtered yet, sent or received
+  pub started-count : (i : ℕ) → i < c .objects → objectState (started t c) i .occurrence ≡ 0
+  unfolding started prepared
+  started-count i h =
+      ap (λ (s : ObjectState). s .occurrence) (running-row (prepared t c) 1 (refines-prepared .ready .long) i) ∙ opens (c .objects) (omega arith) .count i h

@@ -111,6 +111,12 @@ module _ (t : List ℕ) (c : Counts) (accepted : check t ≡ Accepted c) (bt : B
   start-follows m long =
       rw (accepted, le-leb memorySize (length m) long) (follows t c (opened t c) (started t c) m (refines-start t c (accepted-right t c accepted) bt))
 
+  -- working memory after a start
+  pub start-memory : (m : List ℕ) → memorySize ≤ length m → workingMemory (step t start m .memory) ≡ started t c
+  unfolding step startAdmission
+  start-memory m long =
+      rw (accepted, le-leb memorySize (length m) long) (front-of (started t c) m (refines-start t c (accepted-right t c accepted) bt .ready .long))
+
   module _ (b : Book) (m : List ℕ) (f : Follows t c b m) where
     pub admission-is : (d : Description) → admissionFor d t m ≡ admissionBy d c b
     unfolding admission startAdmission
