@@ -1,0 +1,1 @@
+// No code: the examples of W-203 and their proofs.
