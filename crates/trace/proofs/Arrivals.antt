@@ -78,7 +78,7 @@ module _ (t : List ℕ) (c : Counts) (m : List ℕ) (ready : Ready t c m) (j : �
       still-behind t c j low m copied ready
       (λ at w high. part-apart (slotAt (objectRecord t (c .ipdus) j .ipdu)) f m at w slot-room (inr (omega (arith, below, few, high))))
 
-  copied-value : unpack (object t c j) (replaced (slotAt (objectRecord t (c .ipdus) j .ipdu)) f m) ≡ readingIn (objectRecord t (c .ipdus) j) f
+  pub copied-value : unpack (object t c j) (replaced (slotAt (objectRecord t (c .ipdus) j .ipdu)) f m) ≡ readingIn (objectRecord t (c .ipdus) j) f
   unfolding unpack objectOf
   copied-value =
       let r = objectRecord t (c .ipdus) j in

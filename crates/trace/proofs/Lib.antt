@@ -23,5 +23,7 @@ pub mod RoundTrip
 pub mod Receivers
 pub mod Arrivals
 pub mod TurnLaws
+pub mod FilteringCalls
 pub mod Filtered
+pub mod StepFilters
 pub mod OneInN

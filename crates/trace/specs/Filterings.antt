@@ -9,45 +9,50 @@ use lib.Dec.{eqb}
 use lib.ListN.{length}
 use Rattle.memory.specs.Search.{pick}
 use Rattle.table.specs.declared.Counts.{Counts}
-use Rattle.table.specs.Records.{counts, objectRecord}
+use Rattle.table.specs.Records.{sending, counts, objectRecord}
+use Rattle.state.specs.declared.ObjectState.{ObjectState}
 use Rattle.state.specs.Layout.{objectState}
-use Rattle.message.specs.Objects.{object, passesFilter}
+use Rattle.message.specs.Objects.{object, passesFilter, afterFilter, delivered}
 use Rattle.calls.specs.Answers.{numberOf}
 use Rattle.layer.specs.Admission.{workingMemory}
 use Rattle.layer.specs.Step.{Call, start, stop, send, initialise, receive, status, marks, clearMarks, startPeriodic, stopPeriodic, indication, confirm, tick, step}
 use Rattle.group.specs.Groups.{groupStep}
 use Rattle.trace.specs.Actions.{Action, single, group, leaves, groupSends, memoryAfterAll}
-use Rattle.trace.specs.Demand3.{ActionsTyped, done}
+use Rattle.trace.specs.Demand3.{Typed, ActionsTyped, done}
 use Rattle.trace.specs.RoundTrip.{readingIn}
 
 -- ---- the filterings of object i, in the order of the calls: whether each passed
 
--- the values of object i that a call filters, one or none: a send filters its own object's and that of each receiver inside, a good
--- indication that of each object of its I-PDU
-abbrev pub filteredValues : List ℕ → Counts → ℕ → Call → List ℕ
-filteredValues t c i (send j v area) = pick (eqb i j || eqb (objectRecord t (c .ipdus) i .sender) j) (v ∷ []) []
-filteredValues t c i (indication k good bytes) =
-    pick (good && eqb (objectRecord t (c .ipdus) i .ipdu) k) (readingIn (objectRecord t (c .ipdus) i) bytes ∷ []) []
-filteredValues t c i start = []
-filteredValues t c i stop = []
-filteredValues t c i (initialise j v) = []
-filteredValues t c i (receive j) = []
-filteredValues t c i (status j) = []
-filteredValues t c i (marks j) = []
-filteredValues t c i (clearMarks j) = []
-filteredValues t c i startPeriodic = []
-filteredValues t c i stopPeriodic = []
-filteredValues t c i (confirm k good) = []
-filteredValues t c i (tick area) = []
+-- the value of an object that a call filters, if any
+pub data Given : Type 0 where
+  noValue : Given
+  aValue : (v : ℕ) → Given
 
--- judged by the old value and the count that the object then has
-abbrev pub judged : List ℕ → Counts → ℕ → List ℕ → List ℕ → List Bool
-judged t c i m [] = []
-judged t c i m (v ∷ vs) = passesFilter (object t c i) v (objectState m i) ∷ []
+-- a send filters its own object's and that of each receiver inside, a good indication that of each object of its I-PDU
+abbrev pub filteredValue : List ℕ → Counts → ℕ → Call → Given
+filteredValue t c i (send j v area) = pick (eqb i j || eqb (objectRecord t (c .ipdus) i .sender) j) (aValue v) noValue
+filteredValue t c i (indication k good bytes) =
+    pick (good && eqb (objectRecord t (c .ipdus) i .ipdu) k) (aValue (readingIn (objectRecord t (c .ipdus) i) bytes)) noValue
+filteredValue t c i start = noValue
+filteredValue t c i stop = noValue
+filteredValue t c i (initialise j v) = noValue
+filteredValue t c i (receive j) = noValue
+filteredValue t c i (status j) = noValue
+filteredValue t c i (marks j) = noValue
+filteredValue t c i (clearMarks j) = noValue
+filteredValue t c i startPeriodic = noValue
+filteredValue t c i stopPeriodic = noValue
+filteredValue t c i (confirm k good) = noValue
+filteredValue t c i (tick area) = noValue
+
+-- it is judged by the old value and the count that the object then has
+abbrev pub judged : List ℕ → Counts → ℕ → List ℕ → Given → List Bool
+judged t c i m noValue = []
+judged t c i m (aValue v) = passesFilter (object t c i) v (objectState m i) ∷ []
 
 -- a refused call filters nothing
 abbrev pub filteredBy : List ℕ → ℕ → Call → List ℕ → List Bool
-filteredBy t i call m = pick (done (step t call m)) (judged t (counts t) i (workingMemory m) (filteredValues t (counts t) i call)) []
+filteredBy t i call m = pick (done (step t call m)) (judged t (counts t) i (workingMemory m) (filteredValue t (counts t) i call)) []
 
 abbrev pub filteredIn : List ℕ → ℕ → List Call → List ℕ → List Bool
 filteredIn t i [] m = []
@@ -61,6 +66,27 @@ actionFilters t i (group g) m = pick (eqb (numberOf (groupStep t g m .answer)) 0
 abbrev pub filterings : List ℕ → ℕ → List Action → List ℕ → List Bool
 filterings t i [] m = []
 filterings t i (x ∷ xs) m = actionFilters t i x m ++ filterings t i xs (leaves t x m)
+
+-- ---- that this is what the layer does
+
+-- the row of the object that a filtering of v leaves: of a send object, or of one that the value is delivered to
+abbrev pub filteredRow : List ℕ → Counts → ℕ → ℕ → ObjectState → ObjectState
+filteredRow t c i v s =
+    pick (eqb (objectRecord t (c .ipdus) i .kind) sending) (afterFilter (passesFilter (object t c i) v s) (object t c i) v s)
+    (delivered (passesFilter (object t c i) v s) (object t c i) v s)
+
+-- a call that filters a value of the object leaves that row; one that filters none, but for a start, leaves its count
+pub record Filters (t : List ℕ) (i : ℕ) (call : Call) (m : List ℕ) : Type 0 where
+  pub one : (v : ℕ) → done (step t call m) ≡ true → filteredValue t (counts t) i call ≡ aValue v
+      → objectState (workingMemory (step t call m .memory)) i ≡ filteredRow t (counts t) i v (objectState (workingMemory m) i)
+  pub none : (call ≡ start → ⊥) → filteredBy t i call m ≡ []
+      → objectState (workingMemory (step t call m .memory)) i .occurrence ≡ objectState (workingMemory m) i .occurrence
+
+-- so it is of every call after an accepted start and any list, and of every object
+abbrev pub AllFilter : List ℕ → Type 0
+AllFilter t =
+    (xs : List Action) → ActionsTyped xs → (m : List ℕ) → done (step t start m) ≡ true → (call : Call) → Typed call
+    → (i : ℕ) → i < counts t .objects → Filters t i call (memoryAfterAll t (single start ∷ xs) m)
 
 -- ---- the claim
 
