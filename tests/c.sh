@@ -31,9 +31,11 @@ for language in c99 cxx; do
     done
     "$language" tests/c/boundary.c -x none "$archive" -o "$out/boundary"
     "$language" tests/c/groups.c -x none "$archive" -o "$out/groups"
+    "$language" tests/c/counts.c -x none "$archive" -o "$out/counts"
     "$language" tests/c/osek.c tests/c/controller.c -x none "$archive" -o "$out/osek"
     boundary=$("$out/boundary") || { echo "$boundary" "($language)" >&2; exit 1; }
     groups=$("$out/groups") || { echo "$groups" "($language)" >&2; exit 1; }
+    counts=$("$out/counts") || { echo "$counts" "($language)" >&2; exit 1; }
     osek=$("$out/osek") || { echo "$osek" "($language)" >&2; exit 1; }
 done
-echo "c.sh: headers and examples as they should be in C99 and C++; $boundary; $groups; $osek"
+echo "c.sh: headers and examples as they should be in C99 and C++; $boundary; $groups; $counts; $osek"

@@ -1,4 +1,5 @@
-//! The cases 1 to 11 of document 01, on the library and the reference.
+//! The cases 1 to 11 of document 01 and the example of request W-203, on the library and the
+//! reference.
 
 use crate::act::Act;
 use crate::call::Call;
@@ -121,6 +122,8 @@ pub fn run() {
     bits();
     room();
     filters();
+    one_in_three();
+    one_in_three_arrivals();
     queue();
     delay();
     deadline();
@@ -169,6 +172,61 @@ fn filters() {
     let mut case = Case::started(direct(0, 10), one_in_three);
     assert_eq!(case.passed(&[1, 2, 3, 4, 5, 6]), [2, 5]);
     case.has_frame([0x00, 0xA0, 0x00, 0x00]);
+}
+
+/// Request W-203, of 300 sends, also with an initialise before each.
+fn one_in_three() {
+    for initialises in [false, true] {
+        let mut counted = twelve_bits();
+        set_filter(&mut counted, 14, [0, 3, 0]);
+        let mut case = Case::started(direct(0, 10), counted);
+        let mut passed = Vec::new();
+        for n in 1..=300 {
+            if initialises {
+                assert_eq!(case.ask(Call::Initialise { object: 0, value: n }), (0, 0));
+            }
+            if case.passed(&[n]) == [1] {
+                passed.push(n);
+                case.has_frame([0x00, (n << 5) as u8, (n >> 3) as u8, 0x00]);
+            }
+        }
+        assert_eq!(passed, (1..=300).step_by(3).collect::<Vec<u32>>());
+        assert!(passed.contains(&256) && !passed.contains(&257));
+    }
+}
+
+/// So too of values that arrive: object 0 is received in the I-PDU; what object 1 sends comes to
+/// object 2 and to the queue of depth 1 of object 3, which loses every second one that passed.
+fn one_in_three_arrivals() {
+    let inside = [2, 255, 1, 0, 32, 0, 0];
+    let mut objects = [
+        placed(2, 0, 8, 0),
+        object(&[1, 255, 255, 0, 32]),
+        object(&inside),
+        object(&[&inside[..], &[1]].concat()),
+    ];
+    for receiver in [0, 2, 3] {
+        set_filter(&mut objects[receiver], 14, [0, 3, 0]);
+    }
+    let mut case = Case::started_with(&[ipdu(2, 1, 0, [0; 5])], &objects);
+    for n in 1..=300 {
+        assert_eq!(case.indicate(&[n as u8]), (0, 0));
+        assert_eq!(case.ask(Call::Send { object: 1, value: n }), (0, 0));
+        for object in [0, 2] {
+            let arrived = (n % 3 == 1) as u32;
+            assert_eq!(case.ask(Call::Marks { object }), (0, arrived), "arrival {n}");
+            assert_eq!(case.ask(Call::ClearMarks { object }), (0, 0));
+        }
+        let status = match n % 6 {
+            1..=3 => 0,
+            4 => 3,
+            _ => 4,
+        };
+        assert_eq!(case.ask(Call::Status { object: 3 }), (status, 0), "arrival {n}");
+        if status == 3 {
+            assert_eq!(case.ask(Call::Receive { object: 3 }), (3, n - 3));
+        }
+    }
 }
 
 /// Case 8.

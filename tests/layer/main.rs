@@ -3,8 +3,9 @@
 //! memory must be as the reference says. So too over memories that no list of calls has left: the
 //! reference then goes on from the state that is stored there, or refuses with 6. A group is one
 //! of the calls; its status list must be as the reference says, and single sends must leave the
-//! same. Arguments, both optional: the seed, the least number of calls. With `--cfg own` a second
-//! copy of the reference stands in for the library, to try the test alone.
+//! same. Of an object with filter 14 the row of filterings must be as rows.rs says. Arguments, both
+//! optional: the seed, the least number of calls. With `--cfg own` a second copy of the reference
+//! stands in for the library, to try the test alone.
 
 mod act;
 mod call;
@@ -20,6 +21,7 @@ mod met_group;
 mod ranges;
 mod records;
 mod reference;
+mod rows;
 mod stored;
 #[allow(dead_code)]
 #[path = "../table.rs"]
@@ -31,6 +33,7 @@ use library::Library;
 use make_group::act;
 use met::{Event, Met};
 use reference::Layer;
+use rows::Rows;
 use table::{Answer, Run};
 
 /// The most calls over one changed memory.
@@ -55,6 +58,7 @@ struct List<'a> {
     area: Vec<u8>,
     /// The bytes of the memory that docs/MEMORY.md names; empty where the table is wrong.
     named: Vec<bool>,
+    rows: Rows,
     /// Whether the memory is one that no list of calls need have left.
     changed: bool,
 }
@@ -63,8 +67,8 @@ impl List<'_> {
     fn new(table: &[u8], memory: Vec<u8>, area: Vec<u8>) -> List<'_> {
         let reference = Layer::new(table);
         let named = if reference.table_right { ranges::named(table) } else { Vec::new() };
-        let (library, changed) = (Library::new(table), false);
-        List { table, reference, library, memory, area, named, changed }
+        let (library, rows, changed) = (Library::new(table), Rows::new(&reference), false);
+        List { table, reference, library, memory, area, named, rows, changed }
     }
 
     fn differ(&self, test: &Test, act: &Act, what: &str) -> ! {
@@ -148,6 +152,9 @@ impl List<'_> {
         }
         test.calls += 1;
         test.met.note_answer(act, ours, &before, &self.reference);
+        for event in self.follow(test, act, ours, &before) {
+            test.met.note(event, 1);
+        }
         if (ours.number, m < 8192) == (6, false) {
             let event = match act {
                 Act::Call(Call::Tick) => Event::ShortAreaTick,
@@ -156,6 +163,15 @@ impl List<'_> {
             };
             test.met.note(event, 1);
         }
+    }
+
+    /// The rows of filterings after a call, with the layer before it; gives what it has met.
+    fn follow(&mut self, test: &Test, act: &Act, answer: Answer, before: &Layer) -> Vec<Event> {
+        if act.refused_by(answer.number) {
+            return Vec::new();
+        }
+        let followed = self.rows.follow(act, before, &self.reference);
+        followed.unwrap_or_else(|what| self.differ(test, act, &what))
     }
 
     /// The memory after a call, with `before` as it was.
@@ -217,7 +233,9 @@ impl List<'_> {
         if in_range {
             stored::read(&mut reference, &memory);
         }
-        let mut list = List { table, reference, library, memory, area, named, changed: true };
+        let mut count_alone = memories::count_alone(&self.reference, &self.memory, &memory);
+        let (rows, changed) = (Rows::new(&reference), true);
+        let mut list = List { table, reference, library, memory, area, named, rows, changed };
         let (m, a) = (list.memory.len(), list.area.len());
         let mut made = first.clone();
         for _ in 0..test.run.pick(&[1, 1, 1, CHANGED_CALLS]) {
@@ -228,6 +246,10 @@ impl List<'_> {
                 list.over_zeros(test, &made, ours, in_range);
             }
             test.met.note_changed(&made, ours, in_range, &before);
+            if let Some((object, count)) = count_alone.take() {
+                test.met.note_count(&made, ours, object, count);
+            }
+            list.follow(test, &made, ours, &before);
             in_range |= made.is_start();
             made = act(&mut test.run, &list.reference, 0);
         }
@@ -289,15 +311,14 @@ impl Test {
             let made = act(&mut self.run, &list.reference, style);
             list.step(self, &made);
         }
-        self.met.note(Event::ValueLost, list.reference.lost);
-        self.met.note_judged(&list.reference.judged);
+        self.met.note_judged(&list.reference.objects);
         self.last_memory = list.memory;
     }
 
-    /// In one list of ten, hundreds of filterings of one object.
+    /// In one of five lists that have an object with filter 14, hundreds of its filterings.
     fn filter_often(&mut self, list: &mut List) {
         let object = make::often_filtered(&mut self.run, &list.reference);
-        if let (Some(object), 0) = (object, self.run.below(10)) {
+        if let (Some(object), 0) = (object, self.run.below(5)) {
             for _ in 0..300 + self.run.below(300) {
                 let made = make_group::filtering(&mut self.run, &list.reference, object);
                 list.step(self, &made);

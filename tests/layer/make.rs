@@ -24,7 +24,8 @@ fn put_four(t: &mut [u8], at: usize, value: u32) {
 
 // ---- Tables ----
 
-/// A right table with short times and queues, and filters that values can meet.
+/// A right table with short times and queues, and filters that values can meet; one table in six
+/// has many objects with filter 14, and of the receivers inside one in four has it.
 pub fn right(run: &mut Run) -> Vec<u8> {
     let (ipdus, objects) = match run.below(12) {
         0 => (run.pick(&[0, 0, 1]), run.pick(&[0, 1, 6])),
@@ -36,9 +37,16 @@ pub fn right(run: &mut Run) -> Vec<u8> {
     for record in t[16..16 + 16 * ipdus].chunks_mut(16) {
         shorter_times(run, record);
     }
+    let counts = run.below(6) == 0;
     for record in t[16 + 16 * ipdus..].chunks_mut(32) {
         shorter_queue(run, record);
         milder_filter(run, record);
+        let inside = record[2] != 255;
+        if (counts && run.below(2) == 0) || (inside && run.below(4) == 0) {
+            let most = run.pick(&[4, 8, 255]);
+            one_in(run, record, most);
+            record[7] = record[7].min(1 + run.below(2) as u8);
+        }
     }
     t
 }
@@ -80,13 +88,17 @@ fn milder_filter(run: &mut Run, record: &mut [u8]) {
             put_four(record, 16, second);
             put_four(record, 20, first);
         }
-        14 if run.below(2) == 0 => {
-            let period = 1 + run.below(4);
-            put_four(record, 16, period as u32);
-            put_four(record, 20, run.below(period) as u32);
-        }
+        14 if run.below(2) == 0 => one_in(run, record, 4),
         _ => {}
     }
+}
+
+/// Filter 14 with a period of at most so many.
+fn one_in(run: &mut Run, record: &mut [u8], most: usize) {
+    let period = 1 + run.below(most);
+    record[8] = 14;
+    put_four(record, 16, period as u32);
+    put_four(record, 20, run.below(period) as u32);
 }
 
 /// The table with some bytes changed, cut or longer, so that it is wrong.
@@ -291,22 +303,25 @@ fn confirm(run: &mut Run, layer: &Layer) -> Call {
     Call::Confirm { ipdu, good: run.below(3) > 0 }
 }
 
-// ---- Many filterings of one object, so that its occurrence goes past 255 ----
+// ---- Many filterings of one object, so that a count that only goes back at 256 would show ----
 
-/// An object to be filtered often, one with filter 14 if there is one; None without objects.
+/// An object with filter 14, best with a period that does not divide 256; None without one.
 pub fn often_filtered(run: &mut Run, layer: &Layer) -> Option<usize> {
     let count = layer.objects.len();
-    if count == 0 {
-        return None;
-    }
-    let from = run.below(count);
+    let from = run.below(count.max(1));
+    let mut all = (0..count).map(|i| (from + i) % count);
     let fourteen = |i: &usize| layer.objects[*i].filter == 14;
-    (0..count).map(|i| (from + i) % count).find(fourteen).or(Some(from))
+    let uneven = |i: &usize| fourteen(i) && !layer.objects[*i].first.is_power_of_two();
+    all.clone().find(uneven).or_else(|| all.find(fourteen))
 }
 
-/// A call that mostly has this object filter a value.
+/// A call that mostly has this object filter a value; now and then it initialises the object.
 pub fn filtering(run: &mut Run, layer: &Layer, object: usize) -> Call {
     let o = &layer.objects[object];
+    if run.below(20) == 0 {
+        let object = object as u32;
+        return Call::Initialise { object, value: value_for(run, layer, object) };
+    }
     if let (false, Some(k)) = (o.sends, o.ipdu) {
         return indication_of(run, layer, k as u32, true);
     }

@@ -1,7 +1,7 @@
-//! Memories that no list of calls need have left: with changed bytes, with any numbers that are
-//! in their ranges by docs/MEMORY.md, and with zeros alone.
+//! Memories that no list of calls need have left: with changed bytes, with the count of one object
+//! changed, with any numbers that are in their ranges by docs/MEMORY.md, and with zeros alone.
 
-use crate::make::scramble;
+use crate::make::{often_filtered, scramble};
 use crate::records::{Ipdu, Object};
 use crate::reference::Layer;
 use crate::stored::first_byte;
@@ -10,10 +10,11 @@ use crate::table::Run;
 /// A changed copy of a memory.
 pub fn changed(run: &mut Run, layer: &Layer, memory: &[u8]) -> Vec<u8> {
     let mut memory = memory.to_vec();
-    match run.below(9) {
+    match run.below(10) {
         0 => memory.fill(0),
         1..=4 => corrupt(run, layer, &mut memory),
-        5 | 6 => any_in_range(run, layer, &mut memory),
+        5 => change_count(run, layer, &mut memory),
+        6 | 7 => any_in_range(run, layer, &mut memory),
         _ => {
             any_in_range(run, layer, &mut memory);
             corrupt(run, layer, &mut memory);
@@ -40,6 +41,35 @@ fn corrupt(run: &mut Run, layer: &Layer, memory: &mut [u8]) {
         let (less, more) = (memory[at].wrapping_sub(1), memory[at].wrapping_add(1));
         let noise = run.below(256) as u8;
         memory[at] = run.pick(&[0, 1, 2, 15, 16, less, more, more, noise]);
+    }
+}
+
+/// Changes the count of one object, most times to one beside the end of its range.
+fn change_count(run: &mut Run, layer: &Layer, memory: &mut [u8]) {
+    if layer.objects.is_empty() {
+        return;
+    }
+    let any = run.below(layer.objects.len());
+    let i = often_filtered(run, layer).filter(|_| run.below(2) == 0).unwrap_or(any);
+    let (most, any) = (greatest_count(&layer.objects[i]) as u8, run.below(256) as u8);
+    memory[784 + 16 * i + 8] = run.pick(&[most, most, most + 1, most + 1, 255, any]);
+}
+
+/// Where two memories differ in the count of one object alone: the object, and the later count.
+pub fn count_alone<'a>(layer: &'a Layer, before: &[u8], after: &[u8]) -> Option<(&'a Object, u32)> {
+    let mut differing = (0..before.len()).filter(|&at| before[at] != after[at]);
+    let (at, None) = (differing.next()?, differing.next()) else {
+        return None;
+    };
+    let mut places = layer.objects.iter().enumerate().map(|(i, o)| (784 + 16 * i + 8, o));
+    places.find(|(place, _)| *place == at).map(|(_, o)| (o, after[at] as u32))
+}
+
+fn greatest_count(o: &Object) -> u16 {
+    if o.filter == 14 {
+        o.first as u16 - 1
+    } else {
+        0
     }
 }
 
@@ -75,11 +105,12 @@ fn ipdu_row(run: &mut Run, p: &Ipdu, row: &mut [u8]) {
     }
 }
 
-/// The bytes 9 to 12; the ones before them may be any.
+/// The bytes 8 to 12; the ones before them may be any.
 fn object_row(run: &mut Run, o: &Object, row: &mut [u8]) {
-    let most = [15, 1, o.depth.saturating_sub(1) as u16, o.depth as u16];
+    let depth = o.depth as u16;
+    let most = [greatest_count(o), 15, 1, depth.saturating_sub(1), depth];
     for (n, most) in most.into_iter().enumerate() {
-        row[9 + n] = up_to(run, most) as u8;
+        row[8 + n] = up_to(run, most) as u8;
     }
 }
 

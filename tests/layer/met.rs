@@ -2,7 +2,7 @@
 
 use crate::act::{Act, KINDS};
 use crate::call::Call;
-use crate::records::Ipdu;
+use crate::records::{Ipdu, Object};
 use crate::reference::Layer;
 use crate::table::Answer;
 
@@ -67,8 +67,8 @@ pub enum Event {
     GroupJudgedAnew,
     /// A send object with filter 14 that passes one value of the group and drops another.
     GroupFourteen,
-    /// An occurrence that goes from 255 to 0.
-    GroupOccurrenceWraps,
+    /// A count that returns to 0, and a further value of its object.
+    GroupCountReturns,
     /// An I-PDU that a pair has requested: a later pending value is not in its slot, a later
     /// triggered one is postponed.
     GroupPendingAfterTriggered,
@@ -77,10 +77,31 @@ pub enum Event {
     /// A receiver inside that gets two values; one with a queue that loses one.
     GroupReceiverTwice,
     GroupValueLost,
+    /// A count of filter 14 that returns to 0: of a send object; of a receive object, by an
+    /// indication and by a send inside.
+    SendCountReturns,
+    IndicationCountReturns,
+    InternalCountReturns,
+    /// A count that goes on for a value that a full queue loses, and for one that is dropped.
+    LostCountGoesOn,
+    DroppedCountGoesOn,
+    /// An initialise between two filterings, with a count that is not 0 and stays: of a send and of
+    /// a receive object.
+    InitialiseBetweenSends,
+    InitialiseBetweenArrivals,
+    /// A filtering of an object behind 256 others since the start: the period is no power of two;
+    /// a count that wraps at 256 would have judged otherwise.
+    FilteredPast256,
+    NotAsWrapped,
+    /// A memory that differs from a good one in one count alone: as large as the period, and 1
+    /// with another filter, both refused; the period less one, not refused.
+    CountOfPeriodRefused,
+    CountOfOneRefused,
+    GreatestCountAccepted,
 }
 use Event::*;
 
-const EVENTS: [Event; 49] = [
+const EVENTS: [Event; 61] = [
     RequestBySend, PostponedBySend, RequestByTick, PostponedMadeByTick, DelayRunOut, DeadlineRunOut,
     FiredOpenPeriodic, FiredOpenMixed, FiredWanted, ReceiveTimerRunOut, StopPeriodicWanted,
     StartRunning, StartOpen, ShortAreaSend, ShortAreaTick, ValueLost,
@@ -90,8 +111,11 @@ const EVENTS: [Event; 49] = [
     GroupWrongTable, GroupShortArea, GroupOverStopped, GroupFiveNotTwo, GroupSixNotTwo,
     GroupRangeNotTwo, GroupSevenNotTwo, GroupWrongPairGoesOn, GroupReceiveObject,
     GroupByteFrom128, GroupRecordAbove255, GroupSameObjectTwice, GroupJudgedAnew, GroupFourteen,
-    GroupOccurrenceWraps, GroupPendingAfterTriggered, GroupPostponedInside, GroupSeveralRequests,
+    GroupCountReturns, GroupPendingAfterTriggered, GroupPostponedInside, GroupSeveralRequests,
     GroupReceiverTwice, GroupValueLost,
+    SendCountReturns, IndicationCountReturns, InternalCountReturns, LostCountGoesOn,
+    DroppedCountGoesOn, InitialiseBetweenSends, InitialiseBetweenArrivals, FilteredPast256,
+    NotAsWrapped, CountOfPeriodRefused, CountOfOneRefused, GreatestCountAccepted,
 ];
 
 pub struct Met {
@@ -128,9 +152,13 @@ impl Met {
         self.events[event as usize] += times;
     }
 
-    pub fn note_judged(&mut self, judged: &[[u64; 2]; 15]) {
-        for (sum, part) in self.judged.iter_mut().zip(judged) {
-            *sum = [sum[0] + part[0], sum[1] + part[1]];
+    /// What the objects have judged and lost in a whole list.
+    pub fn note_judged(&mut self, objects: &[Object]) {
+        for o in objects {
+            self.note(ValueLost, o.lost);
+            let [dropped, passed] = &mut self.judged[o.filter as usize];
+            *dropped += o.judged[0];
+            *passed += o.judged[1];
         }
     }
 
@@ -223,6 +251,19 @@ impl Met {
                 }
             }
             _ => {}
+        }
+    }
+
+    /// A call over a memory whose only change is the count of this object.
+    pub fn note_count(&mut self, act: &Act, answer: Answer, o: &Object, count: u32) {
+        let (fourteen, refused) = (o.filter == 14, answer.number == 6);
+        let accepted = !act.is_start() && !act.refused_by(answer.number);
+        for (event, is) in [
+            (CountOfPeriodRefused, refused && fourteen && count == o.first),
+            (CountOfOneRefused, refused && !fourteen && count == 1),
+            (GreatestCountAccepted, accepted && fourteen && count + 1 == o.first),
+        ] {
+            self.note(event, is as u64);
         }
     }
 

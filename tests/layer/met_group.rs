@@ -63,6 +63,10 @@ impl Met {
         let k = o.ipdu.filter(|k| so_far.word >> k & 1 == 1);
         let packed = k.is_some_and(|k| was.ipdus[k].bytes != is.ipdus[k].bytes);
         let postponed = k.is_some_and(|k| !was.ipdus[k].wanted && is.ipdus[k].wanted);
+        let returned = so_far.returned.contains(&i);
+        if o.occurrence != 0 && is.objects[i].occurrence == 0 {
+            so_far.returned.push(i);
+        }
         let has_receiver = was.objects.iter().any(|r| r.sender == Some(i));
         so_far.named.push(i);
         if o.filter == 14 {
@@ -74,11 +78,11 @@ impl Met {
             (GroupSameObjectTwice, again),
             (GroupJudgedAnew, again && passed != first.objects[i].judge(value)),
             (GroupFourteen, other_outcome),
-            (GroupOccurrenceWraps, again && o.occurrence == 0),
+            (GroupCountReturns, returned),
             (GroupPendingAfterTriggered, !o.triggered && packed),
             (GroupPostponedInside, postponed),
             (GroupReceiverTwice, again && has_receiver),
-            (GroupValueLost, is.lost > was.lost),
+            (GroupValueLost, lost(is) > lost(was)),
         ] {
             self.note(event, is as u64);
         }
@@ -86,12 +90,13 @@ impl Met {
 }
 
 /// What the sends of a group have done so far: the wrong ones, the objects named, what objects
-/// with filter 14 have judged, the requests.
+/// with filter 14 have judged, those whose count has returned to 0, the requests.
 #[derive(Default)]
 struct Sends {
     wrong: bool,
     named: Vec<usize>,
     fourteen: Vec<(usize, bool)>,
+    returned: Vec<usize>,
     word: u32,
 }
 
@@ -105,6 +110,11 @@ fn reasons(group: &Group) -> Vec<Event> {
         (GroupStatusesLong, group.lent > pairs),
     ];
     all.into_iter().filter(|(_, is)| *is).map(|(event, _)| event).collect()
+}
+
+/// How many values the queues have lost.
+fn lost(layer: &Layer) -> u64 {
+    layer.objects.iter().map(|o| o.lost).sum()
 }
 
 fn sends(layer: &Layer, i: usize) -> bool {

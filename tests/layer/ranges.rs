@@ -31,11 +31,10 @@ pub fn in_range(table: &[u8], memory: &[u8]) -> bool {
     }
     let mut lower_depths = 0;
     for (i, record) in object_records(table).enumerate() {
-        let depth = record[7] as usize;
-        if !object_in_range(depth, lower_depths, &memory[OBJECTS + 16 * i..][..16]) {
+        if !object_in_range(record, lower_depths, &memory[OBJECTS + 16 * i..][..16]) {
             return false;
         }
-        lower_depths += depth;
+        lower_depths += record[7] as usize;
     }
     true
 }
@@ -55,10 +54,14 @@ fn ipdu_in_range(record: &[u8], row: &[u8]) -> bool {
     now.iter().zip(most).all(|(n, most)| *n <= most)
 }
 
-fn object_in_range(depth: usize, lower_depths: usize, row: &[u8]) -> bool {
-    let [marks, overflow, oldest, count] = [9, 10, 11, 12].map(|at| row[at] as usize);
+fn object_in_range(record: &[u8], lower_depths: usize, row: &[u8]) -> bool {
+    let (depth, filter, period) = (record[7] as usize, record[8], record[16] as usize);
+    let [occurrence, marks, overflow] = [8, 9, 10].map(|at| row[at] as usize);
+    let [oldest, count] = [11, 12].map(|at| row[at] as usize);
+    // A period is at most 255, so its lowest byte is all of it.
+    let occurrence_most = if filter == 14 { period - 1 } else { 0 };
     let oldest_most = if depth <= 1 { 0 } else { depth - 1 };
-    let flags = marks <= 15 && overflow <= 1;
+    let flags = occurrence <= occurrence_most && marks <= 15 && overflow <= 1;
     let queue = oldest <= oldest_most && count <= depth;
     flags && queue && two(row, 14) == lower_depths
 }

@@ -1,5 +1,6 @@
 //! The records of the table, read from its bytes, with what is kept of each I-PDU and object;
-//! the bits of an object; its filter. Written from document 01 alone.
+//! the bits of an object; its filter. Written from document 01 alone; how the count of filter 14
+//! goes on, from request W-203 of document 02.
 
 use std::collections::VecDeque;
 
@@ -46,8 +47,14 @@ pub struct Object {
     pub queue: VecDeque<u32>,
     pub overflow: bool,
     pub old: u32,
+    /// The count of filter 14; 0 with another filter.
     pub occurrence: u8,
     pub marks: u8,
+
+    /// What the test asks for besides: how many values the filter dropped and passed, and how many
+    /// a full queue lost. No call clears these.
+    pub judged: [u64; 2],
+    pub lost: u64,
 }
 
 pub fn two(record: &[u8], at: usize) -> u16 {
@@ -105,6 +112,8 @@ pub fn object_of(record: &[u8]) -> Object {
         old: 0,
         occurrence: 0,
         marks: 0,
+        judged: [0; 2],
+        lost: 0,
     }
 }
 
@@ -169,18 +178,21 @@ impl Object {
             11 => new <= old,
             12 => new < old,
             13 => new >= old,
-            14 => self.occurrence as u32 % self.first == self.second,
+            14 => self.occurrence as u32 == self.second,
             _ => unreachable!("the check has refused this filter"),
         }
     }
 
-    /// One filtering: the occurrence rises afterwards, passed or not; old is set if passed.
+    /// One filtering: the count goes on afterwards, passed or not; old is set if passed.
     pub fn filter(&mut self, new: u32) -> bool {
         let passed = self.judge(new);
-        self.occurrence = match self.occurrence {
-            255 => 0,
-            n => n + 1,
-        };
+        self.judged[passed as usize] += 1;
+        if self.filter == 14 {
+            self.occurrence += 1;
+            if self.occurrence as u32 == self.first {
+                self.occurrence = 0;
+            }
+        }
         if passed {
             self.old = new;
         }

@@ -13,10 +13,6 @@ pub struct Layer {
     pub stopped: bool,
     pub ipdus: Vec<Ipdu>,
     pub objects: Vec<Object>,
-    /// For the count at the end of the test: values lost by full queues; and of each filter
-    /// how many values it dropped and passed.
-    pub lost: u64,
-    pub judged: [[u64; 2]; 15],
 }
 
 const ARRIVED: u8 = 1;
@@ -41,7 +37,7 @@ impl Layer {
             ipdus = table[16..objects_at].chunks(16).map(ipdu_of).collect();
             objects = table[objects_at..].chunks(32).map(object_of).collect();
         }
-        Layer { table_right, stopped: false, ipdus, objects, lost: 0, judged: [[0; 2]; 15] }
+        Layer { table_right, stopped: false, ipdus, objects }
     }
 
     /// The refusals that any call may meet, in their order, and then the call itself.
@@ -122,8 +118,8 @@ impl Layer {
             }
         }
         let mut word = 0;
-        if self.filter(i, value) {
-            let o = &self.objects[i];
+        let o = &mut self.objects[i];
+        if o.filter(value) {
             if let Some(k) = o.ipdu {
                 let p = &mut self.ipdus[k];
                 pack(&o.bits, value, &mut p.bytes);
@@ -220,17 +216,17 @@ impl Layer {
 
     /// An arrival at a receive object, from an I-PDU or from a sending object.
     fn deliver(&mut self, i: usize, value: u32) {
-        if !self.filter(i, value) {
+        let o = &mut self.objects[i];
+        if !o.filter(value) {
             return;
         }
-        let o = &mut self.objects[i];
         if o.depth == 0 {
             o.value = value;
         } else if o.queue.len() < o.depth {
             o.queue.push_back(value);
         } else {
             o.overflow = true;
-            self.lost += 1;
+            o.lost += 1;
             return;
         }
         o.marks |= ARRIVED;
@@ -350,12 +346,6 @@ impl Layer {
         slot.fill(0);
         slot[..p.length].copy_from_slice(&p.bytes[..p.length]);
         1 << k
-    }
-
-    fn filter(&mut self, i: usize, value: u32) -> bool {
-        let passed = self.objects[i].filter(value);
-        self.judged[self.objects[i].filter as usize][passed as usize] += 1;
-        passed
     }
 
     /// Sets a mark on every object of an I-PDU.
