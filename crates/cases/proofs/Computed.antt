@@ -23,7 +23,7 @@ use Rattle.calls.specs.declared.Answer.the-variants.{WrongMemory, WrongTable}
 use Rattle.calls.specs.Answers.{Outcome, outcome}
 use Rattle.layer.specs.Admission.{workingMemory, admissionFront, admissionOf, admission, startAdmission, ifAdmitted}
 use Rattle.layer.specs.Step.{Call, lentBytes, longEnough, describe, step, run}
-use Rattle.cases.specs.Case.{Case, packs, fits, passing, checks, answers, callsOf, expected, answered, Holds, AllHold}
+use Rattle.cases.specs.Case.{Case, packs, fits, passing, counting, checks, answers, callsOf, expected, answered, Holds, AllHold}
 
 -- ---- a call on memory of exactly 8,192 bytes
 
@@ -94,6 +94,7 @@ abbrev pub Computes : Case → Type 0
 Computes (packs o n size v L f back) = Holds (packs o n size v L f back)
 Computes (fits o n size L answer) = Holds (fits o n size L answer)
 Computes (passing filter first second old occurrence values passed) = Holds (passing filter first second old occurrence values passed)
+Computes (counting filter first second counts) = Holds (counting filter first second counts)
 Computes (checks table verdict) = Holds (checks table verdict)
 Computes (answers table lines) = answered lines (runFast table (callsOf lines) (replicate memorySize 165)) ≡ expected lines
 
@@ -101,6 +102,7 @@ holds : (c : Case) → Computes c → Holds c
 holds (packs o n size v L f back) e = e
 holds (fits o n size L answer) e = e
 holds (passing filter first second old occurrence values passed) e = e
+holds (counting filter first second counts) e = e
 holds (checks table verdict) e = e
 holds (answers table lines) e = ap (answered lines) (run-fast table (callsOf lines) (replicate memorySize 165)) ∙ e
 

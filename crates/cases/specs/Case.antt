@@ -1,5 +1,5 @@
--- The form of a proved case: a packing, a room, the values that a filter passes, a verdict of the check, or a list of calls with what
--- each answers and hands over.
+-- The form of a proved case: a packing, a room, the values that a filter passes, the counts of filterings, a verdict of the check, or a
+-- list of calls with what each answers and hands over.
 -- Tables are put together from records. Working memory is one list of 8,192 equal bytes, nonzero before the start.
 -- Assumes nothing.
 use mathlib.Core.Bool.{Bool}
@@ -11,7 +11,8 @@ use Rattle.memory.specs.Bytes.{bytesOf, part}
 use Rattle.memory.specs.Search.{pick}
 use Rattle.bits.specs.declared.Order.{Order}
 use Rattle.bits.specs.Bits.{room, packed, unpacked}
-use Rattle.filter.specs.Filters.{passes, filterOf}
+use Rattle.filter.specs.declared.Filter.{Filter}
+use Rattle.filter.specs.Filters.{passes, nextCount, filterOf}
 use Rattle.table.specs.declared.Verdict.{Verdict}
 use Rattle.table.specs.Records.{tableLength}
 use Rattle.table.specs.Check.{check}
@@ -35,12 +36,13 @@ abbrev pub shows : Call → ℕ → ℕ → List ℕ → List ℕ → Line
 shows call number value slots bytes = record { call = call; number = number; value = value; slots = slots; bytes = bytes }
 
 -- a value of some bits at a start bit in L zero bytes, the frame that it gives and what unpacks from that; whether so many bits
--- at a start bit fit L bytes; a filter with its constants, old and occurrence, some values and those of them that pass; what the
--- check answers to a table; or a table and a list of calls with what each answers
+-- at a start bit fit L bytes; a filter with its constants, old and occurrence, some values and those of them that pass; a filter with its
+-- constants and the counts of its first filterings; what the check answers to a table; or a table and a list of calls with what each answers
 pub data Case : Type 0 where
   packs : Order → (n size value L : ℕ) → List ℕ → (back : ℕ) → Case
   fits : Order → (n size L : ℕ) → Bool → Case
   passing : (filter first second old occurrence : ℕ) (values passed : List ℕ) → Case
+  counting : (filter first second : ℕ) (counts : List ℕ) → Case
   checks : (table : List ℕ) → Verdict → Case
   answers : (table : List ℕ) → List Line → Case
 
@@ -70,10 +72,16 @@ passedOf filter first second old occurrence (new ∷ vs) =
     pick (passes (filterOf filter first second) new old occurrence) (new ∷ passedOf filter first second old occurrence vs)
     (passedOf filter first second old occurrence vs)
 
+-- the counts of as many filterings, from n on
+abbrev pub countsFrom : Filter → ℕ → List ℕ → List ℕ
+countsFrom f n [] = []
+countsFrom f n (c ∷ cs) = n ∷ countsFrom f (nextCount f n) cs
+
 abbrev pub Holds : Case → Type 0
 Holds (packs o n size v L f back) = (packed o n size v (replicate L 0) ≡ f) × (unpacked o n size f ≡ back)
 Holds (fits o n size L answer) = room o n size L ≡ answer
 Holds (passing filter first second old occurrence values passed) = passedOf filter first second old occurrence values ≡ passed
+Holds (counting filter first second counts) = countsFrom (filterOf filter first second) 0 counts ≡ counts
 Holds (checks table verdict) = check table ≡ verdict
 Holds (answers table lines) = answered lines (run table (callsOf lines) (replicate memorySize 165)) ≡ expected lines
 

@@ -1,8 +1,8 @@
--- Document 01, "Filters": each filter on both sides of its boundary, what old and occurrence are, and who meets a filter.
--- Worked out from the document. Assumes nothing.
+-- Document 01, "Filters", with W-203's count: each filter on both sides of its boundary, what old and occurrence are, and who meets a
+-- filter. Worked out from the documents. Assumes nothing.
 use mathlib.Core.List.{List, [], _∷_}
 use Rattle.layer.specs.Step.{start, initialise, receive}
-use Rattle.cases.specs.Case.{line, Case, passing, answers, pair, tableOf, receiveIpdu, objectBytes}
+use Rattle.cases.specs.Case.{line, Case, passing, counting, answers, pair, tableOf, receiveIpdu, objectBytes}
 use Rattle.cases.specs.Lines.{ok, refuses, sendGives, receiveGives, marksGive, arrives, confirmGood, directIpdu, internalReceiver}
 
 -- ---- by number; old is 5
@@ -70,7 +70,8 @@ newBelowOld = passing 12 0 0 5 0 (0 ∷ 4 ∷ 5 ∷ 6 ∷ 4294967295 ∷ []) (0 
 abbrev newNotBelowOld : Case
 newNotBelowOld = passing 13 0 0 5 0 (0 ∷ 4 ∷ 5 ∷ 6 ∷ 4294967295 ∷ []) (5 ∷ 6 ∷ 4294967295 ∷ [])
 
--- 14: occurrence mod period = offset, period being the first constant; period 3, offset 2 at occurrences 1, 2, 3, 255
+-- 14: occurrence mod period = offset, period being the first constant; period 3, offset 2 at occurrences 0, 1, 2; the longest period at its
+-- greatest count
 abbrev notItsTurn : Case
 notItsTurn = passing 14 3 2 5 1 (5 ∷ []) []
 
@@ -78,10 +79,10 @@ abbrev itsTurn : Case
 itsTurn = passing 14 3 2 5 2 (5 ∷ []) (5 ∷ [])
 
 abbrev turnIsOver : Case
-turnIsOver = passing 14 3 2 5 3 (5 ∷ []) []
+turnIsOver = passing 14 3 2 5 0 (5 ∷ []) []
 
-abbrev lastOccurrence : Case
-lastOccurrence = passing 14 3 0 5 255 (5 ∷ []) (5 ∷ [])
+abbrev longestPeriod : Case
+longestPeriod = passing 14 255 254 5 254 (5 ∷ []) (5 ∷ [])
 
 -- ---- old
 
@@ -143,7 +144,21 @@ receivedBits =
     ∷ marksGive 0 1
     ∷ [])
 
--- ---- occurrence
+-- ---- occurrence: the count of filterings
+
+-- it runs from 0 to the period less one and returns to 0; a period of 1 has 0 alone
+abbrev countOfThree : Case
+countOfThree = counting 14 3 1 (0 ∷ 1 ∷ 2 ∷ 0 ∷ 1 ∷ 2 ∷ 0 ∷ [])
+
+abbrev countOfOne : Case
+countOfOne = counting 14 1 0 (0 ∷ 0 ∷ 0 ∷ [])
+
+-- with another filter it stays 0, whatever the constants
+abbrev otherCount : Case
+otherCount = counting 2 3 1 (0 ∷ 0 ∷ 0 ∷ [])
+
+abbrev lastOtherCount : Case
+lastOtherCount = counting 13 0 0 (0 ∷ 0 ∷ 0 ∷ [])
 
 -- every filtering counts, a dropped one too; initialise leaves it: the second send has occurrence 1
 abbrev occurrenceOfSender : Case
@@ -201,5 +216,6 @@ abbrev pub filterRules : List Case
 filterRules =
     passesAlways ∷ passesNever ∷ maskedIsX ∷ maskedIsNotX ∷ outsideMask ∷ outsideMaskDiffers ∷ newIsOld ∷ newIsNotOld ∷ maskedIsOld ∷ maskedIsNotOld
     ∷ insideBounds ∷ outsideBounds ∷ insideMinAboveMax ∷ outsideMinAboveMax ∷ newAboveOld ∷ newNotAboveOld ∷ newBelowOld ∷ newNotBelowOld
-    ∷ notItsTurn ∷ itsTurn ∷ turnIsOver ∷ lastOccurrence
-    ∷ oldOfSender ∷ oldOfReceivers ∷ wholeValue ∷ wholeOld ∷ receivedBits ∷ occurrenceOfSender ∷ occurrenceOfReceiver ∷ internalDelivery ∷ []
+    ∷ notItsTurn ∷ itsTurn ∷ turnIsOver ∷ longestPeriod
+    ∷ oldOfSender ∷ oldOfReceivers ∷ wholeValue ∷ wholeOld ∷ receivedBits ∷ countOfThree ∷ countOfOne ∷ otherCount ∷ lastOtherCount
+    ∷ occurrenceOfSender ∷ occurrenceOfReceiver ∷ internalDelivery ∷ []

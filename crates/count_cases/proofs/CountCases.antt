@@ -1,4 +1,5 @@
 -- The examples of W-203, proved by computation from the definitions: one round of three filterings leaves memory as it was, and so do 100.
+-- From the theorems what they say of these lists; a weaker claim does not have it.
 -- Assumes nothing.
 use mathlib.Core.Bool.{Bool, true, false, _&&_}
 use mathlib.Core.List.{List, [], _∷_, _++_, append-assoc}
@@ -7,12 +8,18 @@ use Prim.Native.Nat.{ℕ, zero, suc}
 use native.Mathlib.Omega.{arith}
 use borrow.Author.Tests.{eqb-true}
 use lib.Dec.{eqb}
-use lib.ListN.{length, getD, replicate}
+use lib.ListN.{length, replicate}
+use Rattle.memory.specs.Bytes.{Bytes, bytesOf}
 use Rattle.memory.proofs.Tests.{and-split, true-not-false}
+use Rattle.state.specs.Layout.{memorySize}
 use Rattle.group.specs.Groups.{sendEach, groupStep}
-use Rattle.cases.proofs.Definitions.{definitions}
-use Rattle.trace.specs.Actions.{Action, leaves, memoryAfterAll}
-use Rattle.trace.specs.Filterings.{actionFilters, filterings}
+use Rattle.layer.specs.Step.{start, step}
+use Rattle.cases.proofs.Definitions.{definitions, _&_}
+use Rattle.trace.specs.Actions.{Action, single, asksRunning, leaves, memoryAfterAll}
+use Rattle.trace.specs.Demand3.{ActionsTyped, done}
+use Rattle.trace.specs.Filterings.{actionFilters, filterings, passed, NoStart, Fourteen, periodOf, turns}
+use Rattle.trace.proofs.Pins.{tested, none}
+use Rattle.trace.proofs.OneInN.{one-in-n, in-turn}
 use Rattle.count_cases.specs.CountCases.{table, begun, round, rounds, Filters300, countRanges}
 
 -- ---- one round
@@ -81,3 +88,72 @@ received-300 = let e = all-rounds 2 (false ∷ false ∷ true ∷ []) received 1
 pub count-ranges : countRanges ≡ 0 ∷ 6 ∷ 0 ∷ 6 ∷ 0 ∷ 6 ∷ []
 unfolding definitions
 count-ranges = refl
+
+-- ---- the claims of these lists, each premise proved
+
+bytes : Bytes table
+unfolding bytesOf
+bytes = tested table refl
+
+started : done (step table start (replicate memorySize 165)) ≡ true
+unfolding definitions
+started = refl
+
+typed-then : (xs ys : List Action) → ActionsTyped xs → ActionsTyped ys → ActionsTyped (xs ++ ys)
+typed-then [] ys a b = b
+typed-then (x ∷ xs) ys a b = (a .0, typed-then xs ys (a .1) b)
+
+others-then : (xs ys : List Action) → NoStart xs → NoStart ys → NoStart (xs ++ ys)
+others-then [] ys a b = b
+others-then (x ∷ xs) ys a b = (a .0, others-then xs ys (a .1) b)
+
+zeros : Bytes (0 ∷ 0 ∷ 0 ∷ 0 ∷ [])
+zeros = tested (0 ∷ 0 ∷ 0 ∷ 0 ∷ []) refl
+
+typed-round : ActionsTyped round
+typed-round =
+    (omega arith, none) & (tt, none) & (omega arith, none) & (omega arith, none) & ((omega arith, none) & (omega arith, none) & tt)
+    & (tt, zeros) & (tt, zeros) & (tt, zeros) & (tt, none) & (tt, none) & (tt, none) & tt
+
+-- only a start does not ask for a running layer
+no-start : (x : Action) → asksRunning x ≡ true → x ≡ single start → ⊥
+no-start x asks e = true-not-false {b = true} refl (sym asks ∙ ap asksRunning e)
+
+others-round : NoStart round
+others-round =
+    no-start _ refl & no-start _ refl & no-start _ refl & no-start _ refl & no-start _ refl & no-start _ refl & no-start _ refl & no-start _ refl
+    & no-start _ refl & no-start _ refl & no-start _ refl & tt
+
+typed-rounds : (n : ℕ) → ActionsTyped (rounds n)
+typed-rounds zero = tt
+typed-rounds (suc n) = typed-then round (rounds n) typed-round (typed-rounds n)
+
+others-rounds : (n : ℕ) → NoStart (rounds n)
+others-rounds zero = tt
+others-rounds (suc n) = others-then round (rounds n) others-round (others-rounds n)
+
+module _ (i : ℕ) (x : Fourteen table i) where
+  -- of any three of the 300 in a row one passes
+  pub one-in-three : (before row after : List Bool) → filterings table i (rounds 100) begun ≡ before ++ (row ++ after) → length row ≡ periodOf table i
+      → passed row ≡ 1
+  one-in-three = one-in-n table bytes [] (rounds 100) tt (typed-rounds 100) (others-rounds 100) (replicate memorySize 165) started i x
+
+  -- also where they follow others, and another start
+  pub one-in-three-later : (before row after : List Bool)
+      → filterings table i (rounds 90) (memoryAfterAll table (single start ∷ rounds 10 ++ (single start ∷ [])) (replicate memorySize 165)) ≡ before ++ (row ++ after)
+      → length row ≡ periodOf table i → passed row ≡ 1
+  one-in-three-later =
+      one-in-n table bytes (rounds 10 ++ (single start ∷ [])) (rounds 90) (typed-then (rounds 10) (single start ∷ []) (typed-rounds 10) ((tt, none) & tt))
+      (typed-rounds 90) (others-rounds 90) (replicate memorySize 165) started i x
+
+-- objects that are sent, receive inside and receive from the bus have the filter
+pub fourteen : Fourteen table 0 × Fourteen table 1 × Fourteen table 2
+unfolding definitions
+fourteen = (record { low = omega arith; filter = refl }, record { low = omega arith; filter = refl }, record { low = omega arith; filter = refl })
+
+-- which of the 300 pass, from the claim
+pub sent-in-turn : filterings table 0 (rounds 100) begun ≡ turns 3 0 0 300
+unfolding definitions
+sent-in-turn =
+    in-turn table bytes (rounds 100) (typed-rounds 100) (others-rounds 100) (replicate memorySize 165) started 0 (fourteen .0)
+    ∙ ap (turns 3 0 0) (sent-300 .many)
