@@ -115,14 +115,14 @@ fn after_filter(passed: bool, o: Object, v: u32, s: ObjectState) -> ObjectState
     requires { ⌜ CountFits (o .filter) (s .occurrence) ⌝ }
     ensures { λ r. ⌜ r ≡ afterFilter passed o v s ⌝ }
 {
-    let mut next = s;
+    let mut counted = s;
     let f = o.filter;
-    next.occurrence = filter::next_count(f, s.occurrence);
-    if passed {
-        next.old = v;
-        return next;
+    counted.occurrence = filter::next_count(f, s.occurrence);
+    if !passed {
+        return counted;
     }
-    next
+    counted.old = v;
+    counted
 }
 
 // The numbers of an object after a delivery.

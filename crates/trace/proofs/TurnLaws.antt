@@ -58,8 +58,13 @@ first-turn p d h =
     let whole : d + suc (p - d - 1) ≡ p = omega arith in
     ap passed (sym (rw whole at (turns-join p d 0 d (suc (p - d - 1)))))
     ∙ passed-join (turns p d 0 d) (turns p d (0 + d) (suc (p - d - 1)))
-    ∙ rw (turns-none p d 0 d (omega arith) (λ j least most. omega arith), zero-add d, mod-eq-of-lt {n = d} {m = p} h, eq-eqb d d refl,
-    turns-none p d (d + 1) (p - d - 1) (omega arith) (λ j least most. omega arith))
+    ∙ rw (
+      turns-none p d 0 d (omega arith) (λ j least most. omega arith),
+      zero-add d,
+      mod-eq-of-lt {n = d} {m = p} h,
+      eq-eqb d d refl,
+      turns-none p d (d + 1) (p - d - 1) (omega arith) (λ j least most. omega arith),
+    )
 
 -- the window moved by one: what it loses is what it gains
 turns-next : (p d n : ℕ) → passed (turns p d (n + 1) p) ≡ passed (turns p d n p)

@@ -1,6 +1,7 @@
--- `message::objects::after_filter`: old is set where it passed; the occurrence rises.
+-- `message::objects::after_filter`: the count goes on; old is set where the value passed.
 -- Assumes nothing.
 use borrow.Author.Needs.{needs}
+use borrow.Author.Tests.{not-true, not-false}
 use Rattle.message.specs.Objects.{afterFilter}
 use Rattle.message.proofs.objects.after_filter.Statement.{statement}
 use Rattle.message.proofs.objects.after_filter.Tie as tie
@@ -11,5 +12,5 @@ after-filter-spec =
     tie.close
     (tie.spec
     (λ c κs. search needs)
-    (λ c. rw (c .if1 .taken) cc)
-    (λ c. rw (c .if1 .left) cc))
+    (λ c. rw (not-true (c .before .before .args .passed) (c .if1 .taken)) cc)
+    (λ c. rw (not-false (c .before .before .args .passed) (c .if1 .left)) cc))
