@@ -69,6 +69,8 @@ TABLES = {
     "case09": one(sent_ipdu(4, delay=3), sent(0, start=13, bits=12)),
     "case10": one(sent_ipdu(4, deadline=2), sent(0, start=13, bits=12)),
     "case11": one(sent_ipdu(4, mode=PERIODIC, period=4, offset=2, deadline=20), sent(0, start=13, bits=12)),
+    # The example of W-203: the 256th value asks for a frame and the 257th does not.
+    "one_in_three": one(sent_ipdu(4), sent(0, start=13, bits=12, rule=one_in(3, 0))),
     # A climate van. Humidity is in permille; both sensors drop equal values.
     "van": table(
         [

@@ -11,6 +11,7 @@ MOST_IPDUS, MOST_OBJECTS = 32, 128
 DIRECTIONS = {1: "send", 2: "receive"}
 MODES = {0: "direct", 1: "periodic", 2: "mixed"}
 MOST_DEPTH, MOST_DEPTHS = 16, 512
+ONE_EVERY_N = 14  # the filter that counts
 NONE = 255
 PLACES_IN_LINE = 8
 
@@ -123,9 +124,10 @@ class Table:
         kind = one_of(DIRECTIONS, data[at], f"the kind of object {i}")
         ipdu, sender = data[at + 1], data[at + 2]
         depth = one_of({n: n for n in range(MOST_DEPTH + 1)}, data[at + 7], f"the depth of object {i}")
+        greatest_count = max(number(data, at + 16, 4) - 1, 0) if data[at + 8] == ONE_EVERY_N else 0
         of = f"I-PDU {ipdu}" if ipdu != NONE else f"from object {sender}" if sender != NONE else "no I-PDU"
         words = f"{kind}, {of}" + (f", depth {depth}" if depth else ", unqueued" if kind == "receive" else "")
-        return {"words": words, "depth": depth, "first": first}
+        return {"words": words, "depth": depth, "first": first, "greatest_count": greatest_count}
 
 
 def shown(name, value, least, most):
@@ -157,7 +159,7 @@ class View:
             return 0, self.table.ipdus[index]["most"].get(name, 0)
         record = self.table.objects[index]
         depth, first = record["depth"], record["first"]
-        most = {"marks": 15, "value_lost": 1, "oldest_place": max(depth - 1, 0), "count": depth}
+        most = {"occurrence": record["greatest_count"], "marks": 15, "value_lost": 1, "oldest_place": max(depth - 1, 0), "count": depth}
         if name == "queue_begins":
             return first, first
         size = next(n["size"] for n in self.layout.groups[group]["numbers"] if n["name"] == name)
