@@ -178,7 +178,7 @@ impl Object {
             11 => new <= old,
             12 => new < old,
             13 => new >= old,
-            14 => self.occurrence as u32 == self.second,
+            14 => self.occurrence as u32 % self.first == self.second,
             _ => unreachable!("the check has refused this filter"),
         }
     }

@@ -1,6 +1,6 @@
-//! Of each object with filter 14 the row of its filterings since the last start, or since a change
-//! of the memory, kept without its count: of any N in a row, N the period, exactly one must have
-//! passed.
+//! Of each object with filter 14, in the independent layer, the row of its filterings since the last
+//! start, or since a change of the memory, kept without its count: of any N in a row, N the period,
+//! exactly one must have passed. The library is held to it by what is compared after each call.
 
 use crate::act::Act;
 use crate::call::Call;

@@ -2,7 +2,7 @@
 -- Assumes nothing.
 use mathlib.Core.Bool.{Bool, true, false, not, _&&_}
 use mathlib.Core.List.{List}
-use mathlib.Core.Logic.{inr, ⊎-elim}
+use mathlib.Core.Logic.{⊎-elim}
 use mathlib.Core.Path.{_≡_, refl, sym, ap, _∙_}
 use Prim.Native.Nat.{ℕ, _+_, _^_, _≤_, _<_}
 use native.Mathlib.Omega.{arith}
@@ -11,25 +11,24 @@ use lib.Dec.{ltb, eqb}
 use lib.ListN.{length}
 use Rattle.memory.specs.Bytes.{Bytes, replaced}
 use Rattle.memory.specs.Search.{pick, fold}
-use Rattle.memory.proofs.Parts.{part-apart}
 use Rattle.memory.proofs.Search.{picked, fold-view}
 use Rattle.memory.proofs.Tests.{eq-or-ne, true-or-false}
 use Rattle.table.specs.declared.Counts.{Counts}
 use Rattle.config.specs.declared.Direction.{Direction}
 use Rattle.config.specs.declared.Direction.the-variants.{Send, Receive}
-use Rattle.table.specs.Records.{receiving, sending, ipduRecord, objectRecord}
+use Rattle.table.specs.Records.{mostIpdus, receiving, sending, ipduRecord, objectRecord}
 use Rattle.state.specs.declared.IpduState.{IpduState}
 use Rattle.state.specs.declared.ObjectState.{ObjectState}
-use Rattle.state.specs.Layout.{slotAt, ipduState, withIpduState, objectRow, objectState, withObjectState}
+use Rattle.state.specs.Layout.{slotAt, ipduState, withIpduState, objectState, withObjectState}
 use Rattle.state.specs.Updates.{withOld, withValue, withMarks, withQueue}
 use Rattle.state.specs.Ranges.{Ready}
-use Rattle.state.proofs.RowLaws.{object-length, object-occurrence, object-fits, object-read, object-other, ipdu-keeps-objects}
+use Rattle.state.proofs.RowLaws.{object-length, object-occurrence, object-fits, object-other, ipdu-keeps-objects, slot-keeps-objects}
 use Rattle.state.proofs.Ready.{object-row, ipdu-row}
 use Rattle.state.proofs.Running.{running-row}
 use Rattle.message.specs.Objects.{object, marked, markSent, markReceiveError, markSendError, afterFilter, pack, initialiseAs, initialise}
 use Rattle.queue.specs.Queues.{dequeued, dequeue}
 use Rattle.delivery.specs.Delivery.{deliverFrame, markTurn, markObjects}
-use Rattle.message.proofs.ObjectsInRange.{ready-pack, ready-placed}
+use Rattle.message.proofs.ObjectsInRange.{ready-placed}
 use Rattle.message.proofs.ObjectSteps.{placed-after}
 use Rattle.delivery.proofs.DeliveriesInRange.{ready-mark}
 use Rattle.delivery.proofs.DeliveredRows.{inside-apart, frame-apart}
@@ -38,11 +37,12 @@ use Rattle.timing.specs.Periods.{hasPeriod, periodSet, periodTurn, setPeriods}
 use Rattle.timing.specs.Ticks.{tickDelay, deadlineExpires, tickDeadline, tickPeriod, timerExpires, tickTimer}
 use Rattle.timing.proofs.PeriodsInRange.{ready-periods}
 use Rattle.calls.specs.Answers.{Outcome}
-use Rattle.calls.specs.Calls.{isObject, isIpdu, stopIn, request, sendIn, initialiseIn, receiveIn, statusIn, marksIn, clearMarksIn, periodicIn, indicationIn, confirmIn}
+use Rattle.calls.specs.Calls.{isObject, isIpdu, stopIn, sendIn, initialiseIn, receiveIn, statusIn, marksIn, clearMarksIn, periodicIn, indicationIn, confirmIn}
 use Rattle.calls.specs.Tick.{TickResult, tickAs, tickIpdu, tickResult, tickTurn, tickIn}
 use Rattle.calls.proofs.Records.{object-there, ipdu-there, ipdu-short}
-use Rattle.calls.proofs.SlotRows.{pack-row, request-behind}
-use Rattle.calls.proofs.SendParts.{here, inner, inner-ready, judge, after, after-ready, sent-as}
+use Rattle.calls.proofs.SlotRows.{pack-row}
+use Rattle.calls.proofs.SendParts.{here, inner, inner-ready, judge, after}
+use Rattle.calls.proofs.FilteredRows.{sent-row}
 use Rattle.calls.proofs.ReadyKept.{mark-few, ready-due, ready-copied, ready-delivered, ready-confirmed, ready-ticks}
 
 module _ (t : List ℕ) (c : Counts) (i : ℕ) (low : i < c .objects) where
@@ -83,20 +83,11 @@ module _ (t : List ℕ) (c : Counts) (i : ℕ) (low : i < c .objects) where
         let o = object t c j in
         same-row n (pack o v n) (pack-row o v n (placed-after o m n (ready-placed t c m ready j h) long) i)
 
-    -- a request, made or postponed
-    stays-request : (j : ℕ) → j < c .objects → (area : List ℕ) → countOf (request t (object t c j) area m .memory) ≡ countOf m
-    stays-request j h area =
-        same-row m (request t (object t c j) area m .memory)
-        (object-read (request t (object t c j) area m .memory) m i
-        (λ p w b. request-behind t (object t c j) area m (ready-placed t c m ready j h) (objectRow i + p) w (omega arith)))
-
     -- bytes of a slot
     stays-slot : (k : ℕ) → k < c .ipdus → (f : List ℕ) → length f ≤ 8 → countOf (replaced (slotAt k) f m) ≡ countOf m
     stays-slot k h f few =
-        let below = ready .right .shape .ipdus in
-        same-row m (replaced (slotAt k) f m)
-        (object-read (replaced (slotAt k) f m) m i
-        (λ p w b. part-apart (slotAt k) f m (objectRow i + p) w (omega (arith, h, few, below, ready .long)) (inr (omega (arith, h, few, below)))))
+        let below : k < mostIpdus = omega (arith, h, ready .right .shape .ipdus) in
+        same-row m (replaced (slotAt k) f m) (slot-keeps-objects m k f few below (omega (arith, below, few, ready .long)) i)
 
   module _ (m : List ℕ) (ready : Ready t c m) where
     -- marks on the objects of an I-PDU
@@ -140,17 +131,11 @@ module _ (t : List ℕ) (c : Counts) (i : ℕ) (low : i < c .objects) where
       where
         sent : isObject t c sending j ≡ true → countOf (sendIn t c j v area m .memory) ≡ countOf m
         sent is =
-            let h = here t c m ready j is v small area in
-            let b = judge t c m ready j is v small area in
             let l = inner t c m ready j is v small area in
-            let n = after t c m ready j is v small area in
-            let next = after-ready t c m ready j is v small area in
-            let so-far : countOf n ≡ countOf m =
-            stays-object l (inner-ready t c m ready j is v small area) j h (afterFilter b (object t c j) v (objectState l j)) (λ e. absurd (eqb-false i j other (sym e)))
-            ∙ same-row m l (inside-apart t c m ready j v i small low apart) in
-            rw (sent-as t c m ready j is v small area b refl)
-            (stays-pick b _ _ (countOf m)
-            (λ e. stays-request (pack (object t c j) v n) (ready-pack t c n next j h v) j h area ∙ stays-pack n next j v h n refl ∙ so-far) so-far)
+            let s = afterFilter (judge t c m ready j is v small area) (object t c j) v (objectState l j) in
+            same-row (after t c m ready j is v small area) (sendIn t c j v area m .memory) (sent-row t c m ready j is v small area i)
+            ∙ stays-object l (inner-ready t c m ready j is v small area) j (here t c m ready j is v small area) s (λ e. absurd (eqb-false i j other (sym e)))
+            ∙ same-row m l (inside-apart t c m ready j v i small low apart)
 
     stays-initialise-as : (j v : ℕ) → j < c .objects → (d : Direction) → countOf (initialiseAs d (object t c j) j v m) ≡ countOf m
     stays-initialise-as j v h Send =

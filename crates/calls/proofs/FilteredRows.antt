@@ -2,7 +2,6 @@
 -- Assumes nothing.
 use mathlib.Core.Bool.{Bool, true, false}
 use mathlib.Core.List.{List}
-use mathlib.Core.Logic.{inr}
 use mathlib.Core.Path.{_≡_, refl, _∙_}
 use Prim.Native.Nat.{ℕ, _+_, _^_, _<_}
 use native.Mathlib.Omega.{arith}
@@ -10,7 +9,6 @@ use borrow.Author.Tests.{eq-eqb, ne-eqb}
 use lib.Dec.{ltb, eqb}
 use lib.ListN.{length}
 use Rattle.memory.specs.Bytes.{Bytes, replaced}
-use Rattle.memory.proofs.Parts.{part-apart}
 use Rattle.memory.proofs.Search.{picked}
 use Rattle.filter.specs.Filters.{nextCount}
 use Rattle.table.specs.declared.Counts.{Counts}
@@ -20,7 +18,7 @@ use Rattle.table.proofs.Senders.{send-no-sender}
 use Rattle.state.specs.declared.ObjectState.{ObjectState}
 use Rattle.state.specs.Layout.{slotAt, objectRow, objectState}
 use Rattle.state.specs.Ranges.{Ready}
-use Rattle.state.proofs.RowLaws.{ipdu-keeps-objects, object-stored, object-other, object-read}
+use Rattle.state.proofs.RowLaws.{ipdu-keeps-objects, slot-keeps-objects, object-stored, object-other, object-read}
 use Rattle.state.proofs.Ready.{kept-fits, object-row, ipdu-row}
 use Rattle.message.specs.Objects.{object, marked, passesFilter, afterFilter, delivered, pack, unpack}
 use Rattle.delivery.specs.Delivery.{deliverFrame}
@@ -60,7 +58,7 @@ module _ (t : List ℕ) (c : Counts) (m : List ℕ) (ready : Ready t c m) where
       omega (arith, rw e at from, none, low, ready .right .shape .objects)
 
   -- after the filter no row changes
-  sent-row : (i : ℕ) (is : isObject t c sending i ≡ true) (v : ℕ) (small : v < 2 ^ 32) (area : List ℕ) (j : ℕ)
+  pub sent-row : (i : ℕ) (is : isObject t c sending i ≡ true) (v : ℕ) (small : v < 2 ^ 32) (area : List ℕ) (j : ℕ)
       → objectState (sendIn t c i v area m .memory) j ≡ objectState (after t c m ready i is v small area) j
   sent-row i is v small area j =
       let o = object t c i in
@@ -123,6 +121,4 @@ module _ (t : List ℕ) (c : Counts) (m : List ℕ) (ready : Ready t c m) where
       copied : objectState (replaced (slotAt k) f m) i ≡ objectState m i
       copied =
           let short = ipdu-short t c (ready .right) k there in
-          object-read (replaced (slotAt k) f m) m i
-          (λ o w b.
-          part-apart (slotAt k) f m (objectRow i + o) w (omega (arith, exact, short, few, ready .long)) (inr (omega (arith, exact, short, few))))
+          slot-keeps-objects m k f (omega (arith, exact, short)) few (omega (arith, exact, short, few, ready .long)) i

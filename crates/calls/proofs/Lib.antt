@@ -4,5 +4,5 @@ pub mod Ticks
 pub mod SlotRows
 pub mod SendParts
 pub mod ReadyKept
-pub mod CountsKept
 pub mod FilteredRows
+pub mod CountsKept

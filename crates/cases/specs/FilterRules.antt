@@ -70,8 +70,8 @@ newBelowOld = passing 12 0 0 5 0 (0 ∷ 4 ∷ 5 ∷ 6 ∷ 4294967295 ∷ []) (0 
 abbrev newNotBelowOld : Case
 newNotBelowOld = passing 13 0 0 5 0 (0 ∷ 4 ∷ 5 ∷ 6 ∷ 4294967295 ∷ []) (5 ∷ 6 ∷ 4294967295 ∷ [])
 
--- 14: occurrence mod period = offset, period being the first constant; period 3, offset 2 at occurrences 0, 1, 2; the longest period at its
--- greatest count
+-- 14: occurrence mod period = offset, period being the first constant; period 3, offset 2 at occurrences 0, 1, 2, 5; the longest period at
+-- its greatest count
 abbrev notItsTurn : Case
 notItsTurn = passing 14 3 2 5 1 (5 ∷ []) []
 
@@ -80,6 +80,10 @@ itsTurn = passing 14 3 2 5 2 (5 ∷ []) (5 ∷ [])
 
 abbrev turnIsOver : Case
 turnIsOver = passing 14 3 2 5 0 (5 ∷ []) []
+
+-- the rule is of the remainder, for a count out of its range too
+abbrev laterTurn : Case
+laterTurn = passing 14 3 2 5 5 (5 ∷ []) (5 ∷ [])
 
 abbrev longestPeriod : Case
 longestPeriod = passing 14 255 254 5 254 (5 ∷ []) (5 ∷ [])
@@ -216,6 +220,6 @@ abbrev pub filterRules : List Case
 filterRules =
     passesAlways ∷ passesNever ∷ maskedIsX ∷ maskedIsNotX ∷ outsideMask ∷ outsideMaskDiffers ∷ newIsOld ∷ newIsNotOld ∷ maskedIsOld ∷ maskedIsNotOld
     ∷ insideBounds ∷ outsideBounds ∷ insideMinAboveMax ∷ outsideMinAboveMax ∷ newAboveOld ∷ newNotAboveOld ∷ newBelowOld ∷ newNotBelowOld
-    ∷ notItsTurn ∷ itsTurn ∷ turnIsOver ∷ longestPeriod
+    ∷ notItsTurn ∷ itsTurn ∷ turnIsOver ∷ laterTurn ∷ longestPeriod
     ∷ oldOfSender ∷ oldOfReceivers ∷ wholeValue ∷ wholeOld ∷ receivedBits ∷ countOfThree ∷ countOfOne ∷ otherCount ∷ lastOtherCount
     ∷ occurrenceOfSender ∷ occurrenceOfReceiver ∷ internalDelivery ∷ []

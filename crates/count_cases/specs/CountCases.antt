@@ -17,7 +17,7 @@ use Rattle.trace.specs.Actions.{Action, single, group}
 use Rattle.trace.specs.Filterings.{filterings, passed}
 
 -- object 0 is sent and 1 receives what it sends, 2 is received from the bus: filter 14, period 3, offsets 0, 1 and 2, all values 0; object 3
--- is sent and has no filter
+-- is sent and has filter 0
 abbrev pub table : List ℕ
 table =
     tableOf (sendIpdu 0 0 0 0 10 ∷ receiveIpdu 0 0 ∷ [])

@@ -1,15 +1,19 @@
 -- Laws of filters that callers cite.
 -- Assumes nothing.
 use mathlib.Core.Bool.{true, false, not, _&&_}
+use mathlib.Core.List.{List, [], _∷_}
 use mathlib.Core.Logic.{⊎-elim}
 use mathlib.Core.Path.{_≡_, refl, sym, ap, _∙_}
 use Prim.Native.Nat.{ℕ, zero, suc, _+_, _-_, _%_, _≤_, _<_, zero-le}
 use native.Mathlib.Nat.{mod-lt, mod-eq-of-lt, mod-self, mod-add-mod}
 use native.Mathlib.Omega.{arith}
-use borrow.Author.Tests.{eqb-true, leb-true, ltb-true, ltb-false, le-leb, lt-leb, not-false}
+use borrow.Author.Tests.{eqb-true, leb-true, ltb-true, ltb-false, lt-ltb, le-ltb, le-leb, lt-leb, not-false}
+use denote.Enum.Declared.{tagOf}
+use types.Run.{OneOf, miss}
 use lib.Dec.{leb, ltb, eqb}
 use Rattle.memory.proofs.Search.{any-false}
 use Rattle.memory.proofs.Tests.{and-split, true-or-false, lt-or-le, eq-or-ne}
+use Rattle.filter.proofs.Filter.{the-type}
 use Rattle.filter.specs.declared.Filter.{Filter}
 use Rattle.filter.specs.declared.Filter.the-variants.{Always, Never, MaskedNewEqualsX, MaskedNewDiffersX, NewIsEqual, NewIsDifferent, MaskedNewEqualsMaskedOld}
 use Rattle.filter.specs.declared.Filter.the-variants.{MaskedNewDiffersMaskedOld, NewIsWithin, NewIsOutside, NewIsGreater, NewIsLessOrEqual, NewIsLess}
@@ -51,18 +55,63 @@ pub right-count : (number c d : ℕ) → filterRight number c d ≡ true → gre
 unfolding filterRight
 right-count number c d e = constants-count (filterOf number c d) c d (and-split (leb number 14) _ e .1)
 
+-- the filters before the one with a period, by their places
+abbrev pub before : List ℕ
+before = 0 ∷ 1 ∷ 2 ∷ 3 ∷ 4 ∷ 5 ∷ 6 ∷ 7 ∷ 8 ∷ 9 ∷ 10 ∷ 11 ∷ 12 ∷ 13 ∷ []
+
+pub no-period : (f : Filter) → OneOf before (tagOf the-type f) → 0 ≡ greatestCount f
+unfolding greatestCount
+no-period Always e = refl
+no-period Never e = refl
+no-period (MaskedNewEqualsX mask x) e = refl
+no-period (MaskedNewDiffersX mask x) e = refl
+no-period NewIsEqual e = refl
+no-period NewIsDifferent e = refl
+no-period (MaskedNewEqualsMaskedOld mask) e = refl
+no-period (MaskedNewDiffersMaskedOld mask) e = refl
+no-period (NewIsWithin min max) e = refl
+no-period (NewIsOutside min max) e = refl
+no-period NewIsGreater e = refl
+no-period NewIsLessOrEqual e = refl
+no-period NewIsLess e = refl
+no-period NewIsGreaterOrEqual e = refl
+no-period (OneEveryN period offset) e = absurd (miss before 14 tt e)
+
+-- by the period p of the code, 1 with another filter
+module _ (f : Filter) (n p : ℕ) (period : p - 1 ≡ greatestCount f) where
+  pub next-goes : n + 1 < p → n + 1 ≡ nextCount f n
+  unfolding nextCount
+  next-goes h = rw (lt-ltb n (greatestCount f) (omega (arith, period, h)))
+
+  pub next-returns : p ≤ n + 1 → 0 ≡ nextCount f n
+  unfolding nextCount
+  next-returns h = rw (le-ltb n (greatestCount f) (omega (arith, period, h)))
+
+-- a count that is not 0 is in range where there is a period and it is below that
+pub some-in-range : (f : Filter) (n p d : ℕ) → f ≡ OneEveryN p d → (n ≡ 0 → ⊥) → ltb n p ≡ leb n (greatestCount f)
+unfolding greatestCount
+some-in-range f n p d e some =
+    ⊎-elim
+    (λ (h : n < p). rw (e, lt-ltb n p h, le-leb n (p - 1) (omega (arith, h))))
+    (λ (h : p ≤ n). rw (e, le-ltb n p h, lt-leb n (p - 1) (omega (arith, h, some))))
+    (lt-or-le n p)
+
+-- with another filter none is
+pub none-in-range : (f : Filter) (n : ℕ) → OneOf before (tagOf the-type f) → (n ≡ 0 → ⊥) → false ≡ leb n (greatestCount f)
+none-in-range f n e some = rw (← no-period f e) (sym (lt-leb n 0 (omega (arith, some))))
+
 -- 0 is in every range
 pub zero-in-range : (n greatest : ℕ) → n ≡ 0 → true ≡ leb n greatest
 zero-in-range n greatest e = sym (le-leb n greatest (omega (arith, e)))
 
--- a count in its range is below the period, and so its own remainder
-in-turn : (p d n : ℕ) → n ≤ p - 1 → eqb n d ≡ eqb (n % p) d
-in-turn zero d n h = let e : n ≡ 0 = omega (arith, h) in rw e
-in-turn (suc p) d n h = let below : n < suc p = omega (arith, h) in rw (mod-eq-of-lt below)
+-- a count in its range is its own remainder
+pub own-remainder : (p n : ℕ) → n ≤ p - 1 → n % p ≡ n
+own-remainder zero n h = let e : n ≡ 0 = omega (arith, h) in rw e
+own-remainder (suc p) n h = let below : n < suc p = omega (arith, h) in mod-eq-of-lt below
 
 pub every-passes : (f : Filter) (p d new old n : ℕ) → f ≡ OneEveryN p d → CountFits f n → eqb n d ≡ passes f new old n
 unfolding passes greatestCount
-every-passes f p d new old n e fits = let low : n ≤ p - 1 = rw e at (fits .low) in rw e (in-turn p d n low)
+every-passes f p d new old n e fits = let low : n ≤ p - 1 = rw e at (fits .low) in rw (e, own-remainder p n low)
 
 -- ---- the filter with a period
 

@@ -1,6 +1,6 @@
-// Filters of message objects (document 01, "Filters"; document 001, table 1), under OSEK COM's names.
+// Filters of message objects (document 01, "Filters"; document 001, table 1; W-203), under OSEK COM's names.
 ghost use mathlib.Core.Path.{_≡_};
-ghost use Prim.Native.Nat.{_<_};
+ghost use Prim.Native.Nat.{_-_};
 ghost use lib.Dec.{leb};
 ghost use Rattle.filter.specs.Filters.{passes, greatestCount, nextCount, CountFits, filterOf, constants, filterRight};
 
@@ -98,7 +98,7 @@ fn constants_right(filter: Filter, first: u32, second: u32) -> bool
     }
 }
 
-// Whether `new` passes, after the last value that passed and so many filterings. A count in its range is below the period.
+// Whether `new` passes, by old and the count. With filter 14 a count in its range is below the period and needs no remainder.
 pub fn passes(filter: Filter, new: u32, old: u32, count: u8) -> bool
     requires { ⌜ CountFits filter count ⌝ }
     ensures { λ r. ⌜ r ≡ passes filter new old count ⌝ }
@@ -122,33 +122,37 @@ pub fn passes(filter: Filter, new: u32, old: u32, count: u8) -> bool
     }
 }
 
-// The count after one more filtering: it runs to the greatest and returns to 0.
+// The count after one more filtering: it runs to the period less one and returns to 0.
 pub fn next_count(filter: Filter, count: u8) -> u8
     requires { ⌜ CountFits filter count ⌝ }
     ensures { λ r. ⌜ r ≡ nextCount filter count ⌝ }
 {
-    if (count as u32) < greatest_count(filter) {
+    if count as u32 + 1 < period_of(filter) {
         return count + 1;
     }
     0
 }
 
-// Whether a stored count is in its range. 0 is, with every filter.
+// Whether a stored count is in the range of the filter with this number and these constants; 0 is in every range.
 pub fn count_in_range(number: u32, first: u32, second: u32, count: u8) -> bool
     ensures { λ r. ⌜ r ≡ leb count (greatestCount (filterOf number first second)) ⌝ }
 {
     if count == 0 {
         return true;
     }
-    count as u32 <= greatest_count(filter_of(number, first, second))
+    let filter = filter_of(number, first, second);
+    match filter {
+        Filter::OneEveryN { period, offset: _ } => (count as u32) < period,
+        _ => false,
+    }
 }
 
-// The greatest count: the period less one; with another filter 0.
-fn greatest_count(filter: Filter) -> u32
-    ensures { λ r. ⌜ r ≡ greatestCount filter ⌝ }
+// The period; with another filter 1, so that its count stays 0.
+fn period_of(filter: Filter) -> u32
+    ensures { λ r. ⌜ r - 1 ≡ greatestCount filter ⌝ }
 {
     match filter {
-        Filter::OneEveryN { period, offset: _ } => if period == 0 { 0 } else { period - 1 },
-        _ => 0,
+        Filter::OneEveryN { period, offset: _ } => period,
+        _ => 1,
     }
 }

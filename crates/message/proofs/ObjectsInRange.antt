@@ -198,7 +198,7 @@ module _ (t : List ℕ) (c : Counts) (m : List ℕ) (ready : Ready t c m) (i : �
 
   pub ready-count : CountFits (object t c i .filter) (objectState m i .occurrence)
   unfolding objectOf
-  ready-count = record { low = ready-kept t c m ready i h .occurrence; byte = usable t c (ready .right) i h .filter }
+  ready-count = record { low = ready-kept t c m ready i h .occurrence; byte = usable t c (ready .right) i h .count }
 
   pub ready-placed : Placed (object t c i) m
   ready-placed = right-placed t c m (ready .right) (omega (arith, ready .long)) i h

@@ -109,14 +109,16 @@ fn receive_in_range(p: Ipdu, s: IpduState) -> bool
 fn object_in_range(r: ObjectRecord, first: u32, s: ObjectState) -> bool
     ensures { λ b. ⌜ b ≡ objectInRange r first s ⌝ }
 {
-    let counted = filter::count_in_range(r.filter, r.first, r.second, s.occurrence);
     let last = one_less(r.depth);
-    counted
-        & (s.marks <= 15)
+    let others = (s.marks <= 15)
         & (s.overflow <= 1)
         & (s.count <= r.depth)
         & (s.head <= last)
-        & (s.queue == first)
+        & (s.queue == first);
+    if !others {
+        return false;
+    }
+    filter::count_in_range(r.filter, r.first, r.second, s.occurrence)
 }
 
 fn larger(a: u32, b: u32) -> u32

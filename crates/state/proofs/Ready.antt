@@ -46,26 +46,27 @@ object-kept : (r : ObjectRecord) (first : ℕ) (s : ObjectState) → ObjectFits 
 unfolding objectInRange
 object-kept r first s f e =
     let all =
-    each-true (leb (s .occurrence) (greatestCount (recordFilter r)))
-    (leb (s .marks) 15 ∷ leb (s .overflow) 1 ∷ leb (s .count) (r .depth) ∷ leb (s .head) (r .depth - 1) ∷ eqb (s .queue) first ∷ []) e in
+    each-true (leb (s .marks) 15)
+    (leb (s .overflow) 1 ∷ leb (s .count) (r .depth) ∷ leb (s .head) (r .depth - 1) ∷ eqb (s .queue) first
+    ∷ leb (s .occurrence) (greatestCount (recordFilter r)) ∷ []) e in
     search (leb-true, eqb-true)
 
 pub kept-object : (r : ObjectRecord) (first : ℕ) (s : ObjectState) → ObjectKept r first s → objectInRange r first s ≡ true
 unfolding objectInRange
 kept-object r first s k =
     rw (
-      le-leb (s .occurrence) (greatestCount (recordFilter r)) (k .occurrence),
       le-leb (s .marks) 15 (k .marks),
       le-leb (s .overflow) 1 (k .overflow),
       le-leb (s .count) (r .depth) (k .count),
       le-leb (s .head) (r .depth - 1) (k .head),
+      eq-eqb (s .queue) first (k .queue),
     )
-    (eq-eqb (s .queue) first (k .queue))
+    (le-leb (s .occurrence) (greatestCount (recordFilter r)) (k .occurrence))
 
 module _ (t : List ℕ) (c : Counts) (m : List ℕ) (ready : Ready t c m) where
   -- what a byte holds is enough for an object's count
   pub count-byte : (i : ℕ) → i < c .objects → greatestCount (recordFilter (objectRecord t (c .ipdus) i)) < 256
-  count-byte i h = usable t c (ready .right) i h .filter
+  count-byte i h = usable t c (ready .right) i h .count
 
   -- where an object's queue ends, and its depth
   pub record InQueues (i : ℕ) : Type 0 where

@@ -9,14 +9,14 @@ use native.Mathlib.Nat.{mod-eq-of-lt}
 use native.Mathlib.Omega.{arith}
 use lib.ListN.{length}
 use Rattle.table.specs.Records.{mostIpdus}
-use Rattle.memory.specs.Bytes.{Bytes, value, numberAt, part}
+use Rattle.memory.specs.Bytes.{Bytes, value, numberAt, part, replaced}
 use Rattle.memory.specs.Rows.{Field, put, rising}
-use Rattle.memory.proofs.Parts.{number-lt}
+use Rattle.memory.proofs.Parts.{number-lt, part-apart}
 use Rattle.memory.proofs.Rows.{put-length, put-apart, put-holds, put-bytes}
 use Rattle.memory.proofs.Tests.{lt-or-le}
 use Rattle.state.specs.declared.IpduState.{IpduState}
 use Rattle.state.specs.declared.ObjectState.{ObjectState}
-use Rattle.state.specs.Layout.{rowSize, ipduRows, ipduRow, ipduFields, ipduState, withIpduState, objectRows, objectRow, objectFields, objectState, withObjectState}
+use Rattle.state.specs.Layout.{rowSize, ipduRows, ipduRow, ipduFields, ipduState, withIpduState, slotAt, objectRows, objectRow, objectFields, objectState, withObjectState}
 
 -- the numbers fit their bytes
 pub record IpduFits (s : IpduState) : Type 0 where
@@ -204,6 +204,12 @@ pub ipdu-keeps-objects : (m : List ℕ) (k : ℕ) (s : IpduState) → ipduRow k 
     → objectState (withIpduState m k s) i ≡ objectState m i
 ipdu-keeps-objects m k s room low i =
     object-read (withIpduState m k s) m i (λ o w h. ipdu-part m k s room (objectRow i + o) w (inr (omega arith)))
+
+-- bytes put into a slot
+pub slot-keeps-objects : (m : List ℕ) (k : ℕ) (f : List ℕ) → length f ≤ 8 → k < mostIpdus → slotAt k + length f ≤ length m → (i : ℕ)
+    → objectState (replaced (slotAt k) f m) i ≡ objectState m i
+slot-keeps-objects m k f few low room i =
+    object-read (replaced (slotAt k) f m) m i (λ o w h. part-apart (slotAt k) f m (objectRow i + o) w room (inr (omega arith)))
 
 pub object-keeps-ipdus : (m : List ℕ) (i : ℕ) (s : ObjectState) → objectRow i + rowSize ≤ length m → (k : ℕ) → k < mostIpdus
     → ipduState (withObjectState m i s) k ≡ ipduState m k

@@ -46,16 +46,16 @@ inRangeAs Receive p s =
 unfoldable pub ipduInRange : Ipdu → IpduState → Bool
 ipduInRange p s = inRangeAs (p .direction) p s
 
--- the occurrence is at most the filter's greatest count; the four marks, the overflow flag, a count of at most the depth, the place of the
--- oldest value below it; the queue begins where those of all lower objects end
+-- the four marks, the overflow flag, a count of at most the depth, the place of the oldest value below it; the queue begins where those of
+-- all lower objects end; the occurrence is at most the filter's greatest count
 unfoldable pub objectInRange : ObjectRecord → ℕ → ObjectState → Bool
 objectInRange r first s =
-    leb (s .occurrence) (greatestCount (recordFilter r))
-    && leb (s .marks) 15
+    leb (s .marks) 15
     && leb (s .overflow) 1
     && leb (s .count) (r .depth)
     && leb (s .head) (r .depth - 1)
     && eqb (s .queue) first
+    && leb (s .occurrence) (greatestCount (recordFilter r))
 
 abbrev pub ipduOut : List ℕ → List ℕ → ℕ → Bool
 ipduOut t m k = not (ipduInRange (ipduOf (ipduRecord t k)) (ipduState m k))

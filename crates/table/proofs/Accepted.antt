@@ -111,7 +111,7 @@ module _ (t : List ℕ) where
 
 -- ---- what a right table gives
 
--- an object's number of I-PDU and sending object, its bits and its filter
+-- an object's number of I-PDU and sending object, its bits, its depth and the counts of its filter
 pub record Usable (t : List ℕ) (c : Counts) (r : ObjectRecord) : Type 0 where
   pub start : r .start < 64
   pub slot : InSlot (position (orderOf (r .order)) (r .start)) (r .size)
@@ -119,7 +119,7 @@ pub record Usable (t : List ℕ) (c : Counts) (r : ObjectRecord) : Type 0 where
   pub room : eqb (r .ipdu) 255 ≡ false → room (orderOf (r .order)) (r .start) (r .size) (ipduRecord t (r .ipdu) .length) ≡ true
   pub sender : eqb (r .sender) 255 ≡ false → (r .sender < c .objects) × (objectRecord t (c .ipdus) (r .sender) .kind ≡ sending)
   pub depth : r .depth ≤ 16
-  pub filter : greatestCount (recordFilter r) < 256
+  pub count : greatestCount (recordFilter r) < 256
 
 pub usable : (t : List ℕ) (c : Counts) → Right t c → (i : ℕ) → i < c .objects → Usable t c (objectRecord t (c .ipdus) i)
 unfolding references
@@ -131,7 +131,7 @@ usable t c right i h =
       room = λ some. inside some .room;
       sender = sender;
       depth = bytes .depths;
-      filter = right-count (r .filter) (r .first) (r .second) (facts .filters);
+      count = right-count (r .filter) (r .first) (r .second) (facts .filters);
     }
   where
     r : ObjectRecord

@@ -3,12 +3,10 @@
 -- Assumes: the table holds bytes, and arguments are of the types that the calls take (`TypedAction`).
 use mathlib.Core.Bool.{Bool, true, false}
 use mathlib.Core.List.{List, [], _∷_, _++_}
-use mathlib.Core.Logic.{inl, inr, ⊎-elim}
+use mathlib.Core.Logic.{⊎-elim}
 use mathlib.Core.Path.{_≡_, refl, sym, ap, _∙_}
-use Prim.Native.Nat.{ℕ, _<_}
+use Prim.Native.Nat.{ℕ}
 use borrow.Author.Tests.{ne-eqb}
-use lib.Dec.{eqb}
-use lib.ListN.{length}
 use Rattle.memory.specs.Bytes.{Bytes}
 use Rattle.memory.specs.Search.{pick}
 use Rattle.memory.proofs.Search.{picked}
@@ -16,16 +14,16 @@ use Rattle.memory.proofs.Tests.{true-not-false}
 use Rattle.table.specs.declared.Counts.{Counts}
 use Rattle.table.specs.declared.Verdict.the-variants.{Accepted}
 use Rattle.table.specs.Check.{check}
-use Rattle.calls.specs.Answers.{numberOf, valueOf}
-use Rattle.layer.specs.Step.{Call, step, run, memoryAfter}
+use Rattle.calls.specs.Answers.{numberOf}
+use Rattle.layer.specs.Step.{Call, step, memoryAfter}
 use Rattle.group.specs.Groups.{sent, Group, groupStep}
 use Rattle.trace.specs.Book.{Book, advance, bookAfter}
 use Rattle.trace.specs.Actions.{Action, single, group, leaves, groupSends, acceptsGroup, advanceBy, expanded, memoryAfterAll, bookAfterAll}
-use Rattle.trace.specs.Demand3.{AllTyped, TypedAction, ActionsTyped, frame, names, HandedOver, GroupKept, ActionKept, ActionsKept}
+use Rattle.trace.specs.Demand3.{AllTyped, TypedAction, ActionsTyped, GroupKept, ActionKept, ActionsKept}
 use Rattle.trace.proofs.FramesInArea.{in-area-none}
 use Rattle.trace.proofs.Steps.{Follows, step-follows, list-follows}
 use Rattle.trace.proofs.KeptLists.{call-kept, list-kept}
-use Rattle.trace.proofs.GroupSends.{Ran, sends-ran, GroupDoes, sends, refuses, group-does}
+use Rattle.trace.proofs.GroupSends.{sends-ran, GroupDoes, sends, refuses, group-does}
 
 module _ (t : List ℕ) (c : Counts) (accepted : check t ≡ Accepted c) (bt : Bytes t) where
   module _ (b : Book) (m : List ℕ) (f : Follows t c b m) where

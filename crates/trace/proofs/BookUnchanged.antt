@@ -25,7 +25,7 @@ use Rattle.state.specs.declared.IpduState.{IpduState}
 use Rattle.state.specs.declared.ObjectState.{ObjectState}
 use Rattle.state.specs.Layout.{objectState, withObjectState, ipduState, withIpduState, rowSize, queues, runningAt, slotAt, ipduRow, objectRow}
 use Rattle.state.specs.Ranges.{Ready}
-use Rattle.state.proofs.RowLaws.{ipdu-part, ipdu-keeps-objects, object-part, object-stored, object-other, object-read}
+use Rattle.state.proofs.RowLaws.{ipdu-part, ipdu-keeps-objects, slot-keeps-objects, object-part, object-stored, object-other, object-read}
 use Rattle.state.proofs.Ready.{ready-kept, ObjectKept, kept-fits, object-row, ipdu-row}
 use Rattle.message.specs.Objects.{object, passesFilter, enters, marked, delivered, deliver, unpack}
 use Rattle.queue.specs.Queues.{placeAt}
@@ -146,9 +146,7 @@ module _ (t : List ℕ) (c : Counts) where
       room = omega (arith, few, h, ready .long, ready .right .shape .ipdus)
 
       row : (i : ℕ) → objectState (replaced (slotAt j) f m) i ≡ objectState m i
-      row i =
-          object-read (replaced (slotAt j) f m) m i
-          (λ o w e. part-apart (slotAt j) f m (objectRow i + o) w room (inr (omega (arith, few, h, ready .right .shape .ipdus))))
+      row i = slot-keeps-objects m j f few (omega (arith, h, ready .right .shape .ipdus)) room i
 
 -- ---- turns and calls
 

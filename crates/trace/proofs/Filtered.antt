@@ -1,16 +1,16 @@
--- W-203: the filterings of an object with filter 14 that a call makes pass in turn, and its count goes on with each.
+-- W-203: the filterings by a call of an object with filter 14 pass in turn, and its count goes on with each.
 -- Assumes nothing.
 use mathlib.Core.Bool.{Bool, true, false}
 use mathlib.Core.List.{List, [], _∷_, _++_}
 use mathlib.Core.Path.{_≡_, refl, sym, ap, _∙_}
 use Prim.Native.Nat.{ℕ, _+_, _-_, _%_, _≤_, _<_}
-use native.Mathlib.Nat.{add-zero, mod-eq-of-lt}
+use native.Mathlib.Nat.{add-zero}
 use native.Mathlib.Omega.{arith}
 use lib.ListN.{length, length-append}
 use Rattle.memory.specs.Search.{pick}
 use Rattle.filter.specs.Filters.{greatestCount, nextCount, filterOf}
 use Rattle.filter.specs.declared.Filter.the-variants.{OneEveryN}
-use Rattle.filter.proofs.Laws.{next-in-turn, passes-in-turn, right-period}
+use Rattle.filter.proofs.Laws.{own-remainder, next-in-turn, passes-in-turn, right-period}
 use Rattle.table.specs.Records.{counts, objectRecord}
 use Rattle.table.specs.Rules.{references}
 use Rattle.table.specs.Check.{Right}
@@ -24,7 +24,7 @@ use Rattle.message.proofs.ObjectsInRange.{ready-count}
 use Rattle.layer.specs.Admission.{workingMemory}
 use Rattle.layer.specs.Step.{Call, start, step}
 use Rattle.trace.specs.Demand3.{done}
-use Rattle.trace.specs.Filterings.{Given, noValue, aValue, filteredValue, judged, filteredBy, Filters, Fourteen, periodOf, offsetOf, turns}
+use Rattle.trace.specs.Filterings.{Given, noValue, aValue, filteredValue, filterResult, filteredBy, CallFilters, Fourteen, periodOf, offsetOf, turns}
 use Rattle.trace.proofs.TurnLaws.{turns-join}
 use Rattle.trace.proofs.FilteringCalls.{row-count}
 
@@ -42,13 +42,12 @@ module _ (t : List ℕ) (right : Right t (counts t)) (i : ℕ) (x : Fourteen t i
   abbrev countIn : List ℕ → ℕ
   countIn m = objectState (workingMemory m) i .occurrence
 
-  -- a count in its range is below the period, and so its own remainder
-  pub own-remainder : (m : List ℕ) → Ready t (counts t) (workingMemory m) → countIn m ≡ countIn m % periodOf t i
+  -- in its range it is its own remainder
+  pub count-remainder : (m : List ℕ) → Ready t (counts t) (workingMemory m) → countIn m ≡ countIn m % periodOf t i
   unfolding greatestCount
-  own-remainder m ready =
+  count-remainder m ready =
       let most : countIn m ≤ periodOf t i - 1 = rw filter-is at (ready-count t (counts t) (workingMemory m) ready i (x .low) .low) in
-      let below : countIn m < periodOf t i = omega (arith, most, in-period .0) in
-      sym (mod-eq-of-lt below)
+      sym (own-remainder (periodOf t i) (countIn m) most)
 
   -- ---- filterings from number n on: they pass in turn, and the count goes on with each
 
@@ -82,11 +81,11 @@ module _ (t : List ℕ) (right : Right t (counts t)) (i : ℕ) (x : Fourteen t i
         }
 
     -- a call, done or refused
-    pub call-in-turn : (call : Call) → (call ≡ start → ⊥) → Filters t i call m → InTurnFrom n (filteredBy t i call m) (step t call m .memory)
+    pub call-in-turn : (call : Call) → (call ≡ start → ⊥) → CallFilters t i call m → InTurnFrom n (filteredBy t i call m) (step t call m .memory)
     call-in-turn call other f = by (filteredValue t (counts t) i call) refl (done (step t call m)) refl
       where
         by : (given : Given) → filteredValue t (counts t) i call ≡ given → (went : Bool) → done (step t call m) ≡ went
-            → InTurnFrom n (pick went (judged t (counts t) i (workingMemory m) given) []) (step t call m .memory)
+            → InTurnFrom n (pick went (filterResult t (counts t) i (workingMemory m) given) []) (step t call m .memory)
         by noValue e true d = none-filtered (step t call m .memory) (f .none other (rw (e, d)))
         by noValue e false d = none-filtered (step t call m .memory) (f .none other (rw (e, d)))
         by (aValue v) e true d =

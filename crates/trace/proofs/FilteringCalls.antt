@@ -1,19 +1,18 @@
 -- W-203, one call over an accepted table and any filter: what it leaves of an object's row where it filters a value of it, and of its count
 -- where it filters none.
 -- Assumes: arguments are of the types that the calls take (`Typed`).
-use mathlib.Core.Bool.{Bool, true, false, _&&_, _||_}
-use mathlib.Core.List.{List, [], _∷_}
-use mathlib.Core.Logic.{⊎-elim}
+use mathlib.Core.Bool.{Bool, true, false, _||_}
+use mathlib.Core.List.{List}
 use mathlib.Core.Path.{_≡_, refl, sym, ap, _∙_}
 use Prim.Native.Nat.{ℕ, _<_}
 use native.Mathlib.Omega.{arith}
-use borrow.Author.Tests.{eqb-true, eqb-false, eq-eqb, ne-eqb}
+use borrow.Author.Tests.{eqb-true, eq-eqb, ne-eqb}
 use lib.Dec.{eqb}
 use lib.ListN.{length}
 use Rattle.memory.specs.Bytes.{Bytes, replaced}
 use Rattle.memory.specs.Search.{pick}
 use Rattle.memory.proofs.Search.{picked}
-use Rattle.memory.proofs.Tests.{true-or-false, true-not-false}
+use Rattle.memory.proofs.Tests.{true-not-false}
 use Rattle.filter.specs.Filters.{nextCount}
 use Rattle.table.specs.declared.Counts.{Counts}
 use Rattle.table.specs.Records.{receiving, sending, absent, ipduRecord, objectRecord}
@@ -23,8 +22,7 @@ use Rattle.state.specs.declared.ObjectState.{ObjectState}
 use Rattle.state.specs.Layout.{slotAt, objectState}
 use Rattle.state.specs.Ranges.{Ready}
 use Rattle.message.specs.Objects.{object, passesFilter, afterFilter, delivered, unpack}
-use Rattle.calls.specs.declared.Answer.the-variants.{WrongId, WrongLength}
-use Rattle.calls.specs.Answers.{Outcome, outcome}
+use Rattle.calls.specs.Answers.{numberOf}
 use Rattle.calls.specs.Calls.{isObject, isIpdu, sendIn, indicationIn}
 use Rattle.calls.proofs.Records.{object-there, object-kind, ipdu-there, ipdu-direction}
 use Rattle.calls.proofs.CountsKept.{stays-stop, stays-send, stays-initialise, stays-receive, stays-status, stays-marks, stays-clear, stays-periodic, stays-bad, stays-good}
@@ -34,7 +32,7 @@ use Rattle.layer.specs.Step.{Call, start, stop, send, initialise, receive, stat
 use Rattle.trace.specs.Demand3.{Typed, done}
 use Rattle.trace.specs.RoundTrip.{readingIn}
 use Rattle.trace.specs.Filterings.{noValue, aValue, filteredValue, filteredRow}
-use Rattle.trace.proofs.Shows.{send-done}
+use Rattle.trace.proofs.Shows.{shows, send-done}
 use Rattle.trace.proofs.Arrivals.{copied-value}
 
 no-value : {v : ℕ} → noValue ≡ aValue v → ⊥
@@ -121,7 +119,7 @@ module _ (t : List ℕ) (c : Counts) (i : ℕ) (low : i < c .objects) (m : List 
 
   -- a good indication that is refused, or not
   data Indicated (k : ℕ) (f : List ℕ) : Type 0 where
-    refused : done (indicationIn t c k true f m) ≡ false → indicationIn t c k true f m .memory ≡ m → Indicated k f
+    refused : done (indicationIn t c k true f m) ≡ false → Indicated k f
     taken : done (indicationIn t c k true f m) ≡ true → isIpdu t c receiving k ≡ true → length f ≡ ipduRecord t k .length → Indicated k f
 
   indicates : (k : ℕ) (f : List ℕ) → Indicated k f
@@ -129,8 +127,8 @@ module _ (t : List ℕ) (c : Counts) (i : ℕ) (low : i < c .objects) (m : List 
   indicates k f = by (isIpdu t c receiving k) (eqb (length f) (ipduRecord t k .length)) refl refl
     where
       by : (is exact : Bool) → isIpdu t c receiving k ≡ is → eqb (length f) (ipduRecord t k .length) ≡ exact → Indicated k f
-      by false exact a b = refused (rw a) (rw a)
-      by true false a b = refused (rw (a, b)) (rw (a, b))
+      by false exact a b = refused (rw a)
+      by true false a b = refused (rw (a, b))
       by true true a b = taken (rw (a, b)) a (eqb-true (length f) (ipduRecord t k .length) b)
 
   indicated-row : (k : ℕ) (f : List ℕ) → Bytes f → isIpdu t c receiving k ≡ true → length f ≡ ipduRecord t k .length → objectRecord t (c .ipdus) i .ipdu ≡ k
@@ -174,7 +172,7 @@ module _ (t : List ℕ) (c : Counts) (i : ℕ) (low : i < c .objects) (m : List 
       one = picked-one (eqb (objectRecord t (c .ipdus) i .ipdu) k) (readingIn (objectRecord t (c .ipdus) i) f) v e
 
       by : Indicated k f → objectState (indicationIn t c k true f m .memory) i ≡ filteredRow t c i (readingIn (objectRecord t (c .ipdus) i) f) (objectState m i)
-      by (refused off same) = absurd (true-not-false went off)
+      by (refused off) = absurd (true-not-false went off)
       by (taken on is exact) = indicated-row k f (y .1) is exact (eqb-true (objectRecord t (c .ipdus) i .ipdu) k (one .0))
   own-one (confirm k good) y v e went = absurd (no-value e)
   own-one (tick area) y v e went = absurd (no-value e)
@@ -183,21 +181,6 @@ module _ (t : List ℕ) (c : Counts) (i : ℕ) (low : i < c .objects) (m : List 
 
   pub own-refused : (call : Call) (v : ℕ) → filteredValue t c i call ≡ aValue v → done (describe call .does t c m) ≡ false
       → describe call .does t c m .memory ≡ m
-  own-refused start v e off = absurd (no-value e)
-  own-refused stop v e off = absurd (no-value e)
-  own-refused (send j w area) v e off = unfold sendIn in rw (sym (send-done t c j w area m) ∙ off)
-  own-refused (initialise j w) v e off = absurd (no-value e)
-  own-refused (receive j) v e off = absurd (no-value e)
-  own-refused (status j) v e off = absurd (no-value e)
-  own-refused (marks j) v e off = absurd (no-value e)
-  own-refused (clearMarks j) v e off = absurd (no-value e)
-  own-refused startPeriodic v e off = absurd (no-value e)
-  own-refused stopPeriodic v e off = absurd (no-value e)
-  own-refused (indication k false f) v e off = absurd (no-value e)
-  own-refused (indication k true f) v e off = by (indicates k f)
-    where
-      by : Indicated k f → indicationIn t c k true f m .memory ≡ m
-      by (refused no-one same) = same
-      by (taken on is exact) = absurd (true-not-false on off)
-  own-refused (confirm k good) v e off = absurd (no-value e)
-  own-refused (tick area) v e off = absurd (no-value e)
+  own-refused call v e off =
+      shows t c call .answered m .leaves
+      (λ zero. true-not-false (eq-eqb (numberOf (describe call .does t c m .answer)) 0 zero) off, λ three j same. no-value (rw same at e)) .memory

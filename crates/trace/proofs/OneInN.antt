@@ -4,7 +4,7 @@
 use mathlib.Core.Bool.{Bool, true, false}
 use mathlib.Core.List.{List, [], _∷_, _++_}
 use mathlib.Core.Path.{_≡_, refl, sym, ap, _∙_}
-use Prim.Native.Nat.{ℕ, _+_, _%_, _<_}
+use Prim.Native.Nat.{ℕ, _+_, _%_}
 use native.Mathlib.Nat.{mod-eq-of-lt}
 use lib.ListN.{length}
 use Rattle.memory.specs.Bytes.{Bytes}
@@ -21,13 +21,13 @@ use Rattle.group.specs.declared.Pair.{Pair}
 use Rattle.group.specs.Groups.{Group, groupStep}
 use Rattle.trace.specs.Book.{Book, opened, advance}
 use Rattle.trace.specs.Actions.{Action, single, group, leaves, sendsOf, groupSends, acceptsGroup, advanceBy, memoryAfterAll, bookAfterAll}
-use Rattle.trace.specs.Demand3.{Typed, AllTyped, TypedAction, ActionsTyped, done}
+use Rattle.trace.specs.Demand3.{Typed, AllTyped, TypedAction, ActionsTyped}
 use Rattle.trace.specs.Filterings.{filteredBy, filteredIn, actionFilters, filterings, passed, NoStart, Fourteen, periodOf, offsetOf, OneInN, turns, InTurn}
 use Rattle.trace.proofs.StartRefines.{started-count}
 use Rattle.trace.proofs.Steps.{Follows, start-accepted, start-follows, start-memory, step-follows}
 use Rattle.trace.proofs.ActionsKept.{group-memory, group-kept, action-follows, actions-follow}
 use Rattle.trace.proofs.TurnLaws.{turns-part, one-turn}
-use Rattle.trace.proofs.Filtered.{in-period, own-remainder, InTurnFrom, in-turn-then, none-filtered, call-in-turn}
+use Rattle.trace.proofs.Filtered.{in-period, count-remainder, InTurnFrom, in-turn-then, none-filtered, call-in-turn}
 use Rattle.trace.proofs.StepFilters.{step-filters}
 
 module _ (t : List ℕ) (accepted : check t ≡ Accepted (counts t)) (bt : Bytes t) (i : ℕ) (x : Fourteen t i) where
@@ -96,7 +96,7 @@ one-in-n t bt xs ys typed-xs typed-ys others m went i x before row after e long 
     let l = memoryAfterAll t (single start ∷ xs) m in
     let f = actions-follow t c (a .table) bt xs typed-xs (opened t c) (step t start m .memory) (start-follows t c (a .table) bt m (a .long)) in
     let n = objectState (workingMemory l) i .occurrence in
-    let here = own-remainder t (accepted-right t c (a .table)) i x l (f .agrees .ready) in
+    let here = count-remainder t (accepted-right t c (a .table)) i x l (f .agrees .ready) in
     let fs = actions-in-turn t (a .table) bt i x ys typed-ys others (bookAfterAll t c (opened t c) xs) l f n here in
     one-passed t (a .table) bt i x n (length (filterings t i ys l)) before row after (sym (fs .passes) ∙ e) long
 

@@ -20,7 +20,7 @@ pub record Entry : Type 0 where
   pub object : ℕ
   pub value : ℕ
 
--- entries, the latest first; how many values of each send object were filtered; whether the layer is stopped
+-- entries, the latest first; the count of each send object's filter; whether the layer is stopped
 pub record Book : Type 0 where
   pub entries : List Entry
   pub counts : ℕ → ℕ

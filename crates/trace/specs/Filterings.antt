@@ -17,7 +17,8 @@ use Rattle.calls.specs.Answers.{numberOf}
 use Rattle.layer.specs.Admission.{workingMemory}
 use Rattle.layer.specs.Step.{Call, start, stop, send, initialise, receive, status, marks, clearMarks, startPeriodic, stopPeriodic, indication, confirm, tick, step}
 use Rattle.group.specs.Groups.{groupStep}
-use Rattle.trace.specs.Actions.{Action, single, group, leaves, groupSends, memoryAfterAll}
+use Rattle.trace.specs.Book.{sends, opened, keeps}
+use Rattle.trace.specs.Actions.{Action, single, group, leaves, groupSends, memoryAfterAll, bookAfterAll}
 use Rattle.trace.specs.Demand3.{Typed, ActionsTyped, done}
 use Rattle.trace.specs.RoundTrip.{readingIn}
 
@@ -46,13 +47,13 @@ filteredValue t c i (confirm k good) = noValue
 filteredValue t c i (tick area) = noValue
 
 -- it is judged by the old value and the count that the object then has
-abbrev pub judged : List ℕ → Counts → ℕ → List ℕ → Given → List Bool
-judged t c i m noValue = []
-judged t c i m (aValue v) = passesFilter (object t c i) v (objectState m i) ∷ []
+abbrev pub filterResult : List ℕ → Counts → ℕ → List ℕ → Given → List Bool
+filterResult t c i m noValue = []
+filterResult t c i m (aValue v) = passesFilter (object t c i) v (objectState m i) ∷ []
 
 -- a refused call filters nothing
 abbrev pub filteredBy : List ℕ → ℕ → Call → List ℕ → List Bool
-filteredBy t i call m = pick (done (step t call m)) (judged t (counts t) i (workingMemory m) (filteredValue t (counts t) i call)) []
+filteredBy t i call m = pick (done (step t call m)) (filterResult t (counts t) i (workingMemory m) (filteredValue t (counts t) i call)) []
 
 abbrev pub filteredIn : List ℕ → ℕ → List Call → List ℕ → List Bool
 filteredIn t i [] m = []
@@ -76,7 +77,7 @@ filteredRow t c i v s =
     (delivered (passesFilter (object t c i) v s) (object t c i) v s)
 
 -- a call that filters a value of the object leaves that row; one that filters none, but for a start, leaves its count
-pub record Filters (t : List ℕ) (i : ℕ) (call : Call) (m : List ℕ) : Type 0 where
+pub record CallFilters (t : List ℕ) (i : ℕ) (call : Call) (m : List ℕ) : Type 0 where
   pub one : (v : ℕ) → done (step t call m) ≡ true → filteredValue t (counts t) i call ≡ aValue v
       → objectState (workingMemory (step t call m .memory)) i ≡ filteredRow t (counts t) i v (objectState (workingMemory m) i)
   pub none : (call ≡ start → ⊥) → filteredBy t i call m ≡ []
@@ -86,7 +87,14 @@ pub record Filters (t : List ℕ) (i : ℕ) (call : Call) (m : List ℕ) : Type 
 abbrev pub AllFilter : List ℕ → Type 0
 AllFilter t =
     (xs : List Action) → ActionsTyped xs → (m : List ℕ) → done (step t start m) ≡ true → (call : Call) → Typed call
-    → (i : ℕ) → i < counts t .objects → Filters t i call (memoryAfterAll t (single start ∷ xs) m)
+    → (i : ℕ) → i < counts t .objects → CallFilters t i call (memoryAfterAll t (single start ∷ xs) m)
+
+-- of a send object it is the book's judgement: a value that is sent makes an entry exactly where its filtering passes
+abbrev pub FiltersKeep : List ℕ → Type 0
+FiltersKeep t =
+    (xs : List Action) → ActionsTyped xs → (m : List ℕ) → done (step t start m) ≡ true → (i v : ℕ) → sends t (counts t) i ≡ true
+    → passesFilter (object t (counts t) i) v (objectState (workingMemory (memoryAfterAll t (single start ∷ xs) m)) i)
+    ≡ keeps t (counts t) (bookAfterAll t (counts t) (opened t (counts t)) xs) i v
 
 -- ---- the claim
 
