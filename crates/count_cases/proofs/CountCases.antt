@@ -4,21 +4,25 @@
 use mathlib.Core.Bool.{Bool, true, false, _&&_}
 use mathlib.Core.List.{List, [], _∷_, _++_, append-assoc}
 use mathlib.Core.Path.{_≡_, refl, sym, ap, _∙_}
-use Prim.Native.Nat.{ℕ, zero, suc}
+use Prim.Native.Nat.{ℕ, zero, suc, _<_}
 use native.Mathlib.Omega.{arith}
 use borrow.Author.Tests.{eqb-true}
 use lib.Dec.{eqb}
 use lib.ListN.{length, replicate}
 use Rattle.memory.specs.Bytes.{Bytes, bytesOf}
 use Rattle.memory.proofs.Tests.{and-split, true-not-false}
-use Rattle.state.specs.Layout.{memorySize}
+use Rattle.state.specs.declared.ObjectState.{ObjectState}
+use Rattle.state.specs.Layout.{memorySize, objectState}
 use Rattle.group.specs.Groups.{sendEach, groupStep}
-use Rattle.layer.specs.Step.{start, step}
+use Rattle.layer.specs.Admission.{workingMemory}
+use Rattle.layer.specs.Step.{start, send, step}
+use Rattle.cases.specs.Case.{area}
 use Rattle.cases.proofs.Definitions.{definitions, _&_}
 use Rattle.trace.specs.Actions.{Action, single, asksRunning, leaves, memoryAfterAll}
 use Rattle.trace.specs.Demand3.{ActionsTyped, done}
-use Rattle.trace.specs.Filterings.{actionFilters, filterings, passed, NoStart, Fourteen, periodOf, turns}
+use Rattle.trace.specs.Filterings.{actionFilters, filterings, CallFilters, passed, NoStart, Fourteen, turns}
 use Rattle.trace.proofs.Pins.{tested, none}
+use Rattle.trace.proofs.StepFilters.{all-filter}
 use Rattle.trace.proofs.OneInN.{one-in-n, in-turn}
 use Rattle.count_cases.specs.CountCases.{table, begun, round, rounds, Filters300, countRanges}
 
@@ -132,24 +136,38 @@ others-rounds : (n : ℕ) → NoStart (rounds n)
 others-rounds zero = tt
 others-rounds (suc n) = others-then round (rounds n) others-round (others-rounds n)
 
-module _ (i : ℕ) (x : Fourteen table i) where
-  -- of any three of the 300 in a row one passes
-  pub one-in-three : (before row after : List Bool) → filterings table i (rounds 100) begun ≡ before ++ (row ++ after) → length row ≡ periodOf table i
-      → passed row ≡ 1
-  one-in-three = one-in-n table bytes [] (rounds 100) tt (typed-rounds 100) (others-rounds 100) (replicate memorySize 165) started i x
-
-  -- also where they follow others, and another start
-  pub one-in-three-later : (before row after : List Bool)
-      → filterings table i (rounds 90) (memoryAfterAll table (single start ∷ rounds 10 ++ (single start ∷ [])) (replicate memorySize 165)) ≡ before ++ (row ++ after)
-      → length row ≡ periodOf table i → passed row ≡ 1
-  one-in-three-later =
-      one-in-n table bytes (rounds 10 ++ (single start ∷ [])) (rounds 90) (typed-then (rounds 10) (single start ∷ []) (typed-rounds 10) ((tt, none) & tt))
-      (typed-rounds 90) (others-rounds 90) (replicate memorySize 165) started i x
-
 -- objects that are sent, receive inside and receive from the bus have the filter
 pub fourteen : Fourteen table 0 × Fourteen table 1 × Fourteen table 2
 unfolding definitions
 fourteen = (record { low = omega arith; filter = refl }, record { low = omega arith; filter = refl }, record { low = omega arith; filter = refl })
+
+-- with a period of 3
+abbrev Threes : ℕ → Type 0
+Threes i = (before row after : List Bool) → filterings table i (rounds 100) begun ≡ before ++ (row ++ after) → length row ≡ 3 → passed row ≡ 1
+
+-- of any three of the 300 in a row one passes
+pub one-in-three : Threes 0 × Threes 1 × Threes 2
+unfolding definitions
+one-in-three =
+    let claim = one-in-n table bytes [] (rounds 100) tt (typed-rounds 100) (others-rounds 100) (replicate memorySize 165) started in
+    (claim 0 (fourteen .0), claim 1 (fourteen .1), claim 2 (fourteen .2))
+
+-- the 256th to 258th, from the claim
+pub late-three : (passed (true ∷ false ∷ false ∷ []) ≡ 1) × (passed (false ∷ true ∷ false ∷ []) ≡ 1) × (passed (false ∷ false ∷ true ∷ []) ≡ 1)
+late-three = (
+  one-in-three .0 (repeated 85 (true ∷ false ∷ false ∷ [])) (true ∷ false ∷ false ∷ []) (repeated 14 (true ∷ false ∷ false ∷ [])) (all-rounds 0 _ sent 100) refl,
+  one-in-three .1 (repeated 85 (false ∷ true ∷ false ∷ [])) (false ∷ true ∷ false ∷ []) (repeated 14 (false ∷ true ∷ false ∷ [])) (all-rounds 1 _ inside 100) refl,
+  one-in-three .2 (repeated 85 (false ∷ false ∷ true ∷ [])) (false ∷ false ∷ true ∷ []) (repeated 14 (false ∷ false ∷ true ∷ [])) (all-rounds 2 _ received 100) refl,
+)
+
+-- also where they follow others, and another start
+pub one-in-three-later : (before row after : List Bool)
+    → filterings table 2 (rounds 90) (memoryAfterAll table (single start ∷ rounds 10 ++ (single start ∷ [])) (replicate memorySize 165)) ≡ before ++ (row ++ after)
+    → length row ≡ 3 → passed row ≡ 1
+unfolding definitions
+one-in-three-later =
+    one-in-n table bytes (rounds 10 ++ (single start ∷ [])) (rounds 90) (typed-then (rounds 10) (single start ∷ []) (typed-rounds 10) ((tt, none) & tt))
+    (typed-rounds 90) (others-rounds 90) (replicate memorySize 165) started 2 (fourteen .2)
 
 -- which of the 300 pass, from the claim
 pub sent-in-turn : filterings table 0 (rounds 100) begun ≡ turns 3 0 0 300
@@ -157,3 +175,38 @@ unfolding definitions
 sent-in-turn =
     in-turn table bytes (rounds 100) (typed-rounds 100) (others-rounds 100) (replicate memorySize 165) started 0 (fourteen .0)
     ∙ ap (turns 3 0 0) (sent-300 .many)
+
+-- ---- what a filtering does, from the claim that these are the layer's
+
+-- the memory that a first and a second send leave
+abbrev once : List ℕ
+once = step table (send 0 5 area) begun .memory
+
+abbrev twice : List ℕ
+twice = step table (send 0 6 area) once .memory
+
+sends-done : (done (step table (send 0 5 area) begun) ≡ true) × (done (step table (send 0 6 area) once) ≡ true)
+unfolding definitions
+sends-done = (refl, refl)
+
+-- each of objects 0 and 1
+first : (i : ℕ) → i < 2 → CallFilters table i (send 0 5 area) begun
+unfolding definitions
+first i low = all-filter table bytes [] tt (replicate memorySize 165) started (send 0 5 area) (omega arith, none) i (omega (arith, low))
+
+second : (i : ℕ) → i < 2 → CallFilters table i (send 0 6 area) once
+unfolding definitions
+second i low =
+    all-filter table bytes (single (send 0 5 area) ∷ []) ((omega arith, none) & tt) (replicate memorySize 165) started (send 0 6 area) (omega arith, none) i (omega (arith, low))
+
+-- 5 passes and becomes old, and does not arrive inside; 6 is dropped, and arrives there
+pub filterings-act : (objectState (workingMemory once) 0 .old ≡ 5) × (objectState (workingMemory once) 1 .marks ≡ 0)
+    × (objectState (workingMemory twice) 0 .old ≡ 5) × (objectState (workingMemory twice) 1 .value ≡ 6) × (objectState (workingMemory twice) 1 .marks ≡ 1)
+unfolding definitions
+filterings-act = (
+  ap (λ (s : ObjectState). s .old) (first 0 (omega arith) .one 5 (sends-done .0) refl),
+  ap (λ (s : ObjectState). s .marks) (first 1 (omega arith) .one 5 (sends-done .0) refl),
+  ap (λ (s : ObjectState). s .old) (second 0 (omega arith) .one 6 (sends-done .1) refl),
+  ap (λ (s : ObjectState). s .value) (second 1 (omega arith) .one 6 (sends-done .1) refl),
+  ap (λ (s : ObjectState). s .marks) (second 1 (omega arith) .one 6 (sends-done .1) refl),
+)
