@@ -1,16 +1,14 @@
 -- The examples of W-203, proved by computation from the definitions: one round of three filterings leaves memory as it was, and so do 100.
 -- From the theorems what they say of these lists; a weaker claim does not have it.
 -- Assumes nothing.
-use mathlib.Core.Bool.{Bool, true, false, _&&_}
+use mathlib.Core.Bool.{Bool, true, false}
 use mathlib.Core.List.{List, [], _∷_, _++_, append-assoc}
 use mathlib.Core.Path.{_≡_, refl, sym, ap, _∙_}
 use Prim.Native.Nat.{ℕ, zero, suc, _<_}
 use native.Mathlib.Omega.{arith}
-use borrow.Author.Tests.{eqb-true}
-use lib.Dec.{eqb}
 use lib.ListN.{length, replicate}
 use Rattle.memory.specs.Bytes.{Bytes, bytesOf}
-use Rattle.memory.proofs.Tests.{and-split, true-not-false}
+use Rattle.memory.proofs.Tests.{true-not-false}
 use Rattle.state.specs.declared.ObjectState.{ObjectState}
 use Rattle.state.specs.Layout.{memorySize, objectState}
 use Rattle.group.specs.Groups.{sendEach, groupStep}
@@ -18,6 +16,8 @@ use Rattle.layer.specs.Admission.{workingMemory}
 use Rattle.layer.specs.Step.{start, send, step}
 use Rattle.cases.specs.Case.{area}
 use Rattle.cases.proofs.Definitions.{definitions, _&_}
+use Rattle.script.specs.Reading.{same}
+use Rattle.script.proofs.CharacterLists.{same-equal}
 use Rattle.trace.specs.Actions.{Action, single, asksRunning, leaves, memoryAfterAll}
 use Rattle.trace.specs.Demand3.{ActionsTyped, done}
 use Rattle.trace.specs.Filterings.{actionFilters, filterings, CallFilters, passed, NoStart, Fourteen, turns}
@@ -28,22 +28,8 @@ use Rattle.count_cases.specs.CountCases.{table, begun, round, rounds, Fi
 
 -- ---- one round
 
--- two lists that are equal by a computed test
-abbrev equal : List ℕ → List ℕ → Bool
-equal [] [] = true
-equal [] (y ∷ ys) = false
-equal (x ∷ xs) [] = false
-equal (x ∷ xs) (y ∷ ys) = eqb x y && equal xs ys
-
-are-equal : (xs ys : List ℕ) → equal xs ys ≡ true → xs ≡ ys
-are-equal [] [] e = refl
-are-equal [] (y ∷ ys) e = absurd (true-not-false {b = true} refl (sym e))
-are-equal (x ∷ xs) [] e = absurd (true-not-false {b = true} refl (sym e))
-are-equal (x ∷ xs) (y ∷ ys) e =
-    let both = and-split (eqb x y) (equal xs ys) e in
-    rw (eqb-true x y (both .0), are-equal xs ys (both .1))
-
-returns : equal (memoryAfterAll table round begun) begun ≡ true
+-- by a computed test
+returns : same (memoryAfterAll table round begun) begun ≡ true
 unfolding definitions sendEach groupStep
 returns = refl
 
@@ -75,7 +61,7 @@ all-rounds : (i : ℕ) (fs : List Bool) → filterings table i round begun ≡ f
 all-rounds i fs e zero = refl
 all-rounds i fs e (suc n) =
     filterings-then table i round (rounds n) begun
-    ∙ rw (are-equal (memoryAfterAll table round begun) begun returns, e, all-rounds i fs e n)
+    ∙ rw (same-equal (memoryAfterAll table round begun) begun returns, e, all-rounds i fs e n)
 
 -- the request's own example: with offset 0 the 256th passes and the 257th does not
 pub sent-300 : Filters300 0 (false ∷ true ∷ false ∷ false ∷ [])

@@ -50,7 +50,7 @@ markSendError = 8
 unfoldable pub marked : ℕ → ObjectState → ObjectState
 marked mark s = withMarks (bitOr (s .marks) mark) s
 
--- ---- filters: old becomes a value that passed; every filtering counts, as the filter does
+-- ---- filters: old becomes a value that passed; every filtering moves the count on, by the filter's rule
 
 abbrev pub passesFilter : Object → ℕ → ObjectState → Bool
 passesFilter o v s = passes (o .filter) v (s .old) (s .occurrence)
