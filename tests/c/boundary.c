@@ -46,18 +46,7 @@ static const uint8_t one_queue[64] = {
     2, 1, 0, 0, 0, 0, 0, 0, 0, 0, 0, 0, 0, 0, 0, 0, 2, 0, 255, 0, 8, 0, 0, 2,
 };
 
-/* What is lent, with five and three bytes that no call may touch at the ends. */
-#define MEMORY_LENT (BIRNENSCHLOSS_MEMORY_SIZE + 5)
-#define AREA_LENT (BIRNENSCHLOSS_AREA_SIZE + 3)
-
-static struct lent {
-    uint8_t table[TABLE_SIZE];
-    uint8_t memory[MEMORY_LENT];
-    uint8_t area[AREA_LENT];
-} lent, before;
-
-#define LENT lent.table, TABLE_SIZE, lent.memory, MEMORY_LENT
-#define AREA lent.area, AREA_LENT
+#include "lent.h"
 
 #define LENGTH(n, ipdu, length) \
     (answers++, REQUIRE(birnenschloss_ipdu_length(lent.table, n, ipdu) == (length)))

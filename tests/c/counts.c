@@ -26,18 +26,7 @@ static const uint8_t right_table[TABLE_SIZE] = {
     5, 0, 0, 0, 1, 0, 0, 0, 0, 0, 0, 0, 0, 0, 0, 0,
 };
 
-/* What is lent, with five and three bytes that no call may touch at the ends. */
-#define MEMORY_LENT (BIRNENSCHLOSS_MEMORY_SIZE + 5)
-#define AREA_LENT (BIRNENSCHLOSS_AREA_SIZE + 3)
-
-static struct lent {
-    uint8_t table[TABLE_SIZE];
-    uint8_t memory[MEMORY_LENT];
-    uint8_t area[AREA_LENT];
-} lent, before;
-
-#define LENT lent.table, TABLE_SIZE, lent.memory, MEMORY_LENT
-#define AREA lent.area, AREA_LENT
+#include "lent.h"
 
 /* The count of an object in working memory (docs/MEMORY.md). */
 #define COUNT(object) lent.memory[784 + 16 * (object) + 8]
