@@ -14,6 +14,7 @@ use lib.ListN.{length}
 use Rattle.memory.specs.Bytes.{bytesOf, part, replaced}
 use Rattle.memory.specs.Search.{pick}
 use Rattle.memory.proofs.Parts.{bytesOf-length, bytesOf-bytes, part-length, replaced-length}
+use Rattle.memory.proofs.Search.{picked}
 use Rattle.memory.proofs.Tests.{true-or-false}
 use Rattle.bits.specs.Bits.{packed}
 use Rattle.bits.proofs.RoundTrip.{packed-length, packed-bytes, unpacked-lt}
@@ -29,7 +30,7 @@ use Rattle.config.specs.Decode.{objectOf}
 use Rattle.table.proofs.Accepted.{usable}
 use Rattle.state.specs.declared.ObjectState.{ObjectState}
 use Rattle.state.specs.Layout.{memorySize, slotAt, objectState}
-use Rattle.state.specs.Updates.{withOld, withValue, withMarks, withQueue}
+use Rattle.state.specs.Updates.{counted, withOld, withValue, withMarks, withQueue}
 use Rattle.state.specs.Ranges.{Ready}
 use Rattle.state.proofs.Ready.{ObjectKept, in-queues, ready-kept, ready-object, ready-bytes}
 use Rattle.message.specs.Objects.{object, Placed, marked, passesFilter, afterFilter, stored, delivered, enters, deliver, startBit, pack, unpack}
@@ -58,32 +59,6 @@ module _ (r : ObjectRecord) (first : ℕ) where
       let below : bitOr (s .marks) mark < 2 ^ 4 = or-lt 4 (s .marks) mark (omega (arith, k .marks)) (omega (arith, low)) in
       kept-marks (bitOr (s .marks) mark) s (omega (arith, below)) k
 
-  pub kept-after-filter : (passed : Bool) (v : ℕ) (s : ObjectState) → v < 2 ^ 32 → ObjectKept r first s
-      → ObjectKept r first (afterFilter passed (objectOf r) v s)
-  unfolding afterFilter objectOf
-  kept-after-filter true v s h k =
-      record {
-        value = k .value;
-        old = h;
-        occurrence = next-low (recordFilter r) (s .occurrence);
-        marks = k .marks;
-        overflow = k .overflow;
-        count = k .count;
-        head = k .head;
-        queue = k .queue;
-      }
-  kept-after-filter false v s h k =
-      record {
-        value = k .value;
-        old = k .old;
-        occurrence = next-low (recordFilter r) (s .occurrence);
-        marks = k .marks;
-        overflow = k .overflow;
-        count = k .count;
-        head = k .head;
-        queue = k .queue;
-      }
-
   pub kept-old : (v : ℕ) (s : ObjectState) → v < 2 ^ 32 → ObjectKept r first s → ObjectKept r first (withOld v s)
   kept-old v s h k =
       record {
@@ -96,6 +71,25 @@ module _ (r : ObjectRecord) (first : ℕ) where
         head = k .head;
         queue = k .queue;
       }
+
+  kept-counted : (s : ObjectState) → ObjectKept r first s → ObjectKept r first (counted (recordFilter r) s)
+  kept-counted s k =
+      record {
+        value = k .value;
+        old = k .old;
+        occurrence = next-low (recordFilter r) (s .occurrence);
+        marks = k .marks;
+        overflow = k .overflow;
+        count = k .count;
+        head = k .head;
+        queue = k .queue;
+      }
+
+  pub kept-after-filter : (passed : Bool) (v : ℕ) (s : ObjectState) → v < 2 ^ 32 → ObjectKept r first s
+      → ObjectKept r first (afterFilter passed (objectOf r) v s)
+  unfolding afterFilter objectOf
+  kept-after-filter passed v s h k =
+      kept-counted (pick passed (withOld v s) s) (picked (ObjectKept r first) passed (withOld v s) s (λ e. kept-old v s h k) (λ e. k))
 
   pub kept-value : (v : ℕ) (s : ObjectState) → v < 2 ^ 32 → ObjectKept r first s → ObjectKept r first (withValue v s)
   kept-value v s h k =

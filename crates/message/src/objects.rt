@@ -9,7 +9,7 @@ use table::ObjectNumber;
 ghost use mathlib.Core.Path.{_≡_};
 ghost use Prim.Native.Nat.{_+_, _≤_, _<_};
 ghost use lib.ListN.{length};
-ghost use Rattle.table.specs.Records.{mostIpdus, sending};
+ghost use Rattle.table.specs.Records.{mostIpdus};
 ghost use Rattle.filter.specs.Filters.{CountFits};
 ghost use Rattle.config.specs.declared.Direction.the-variants.{Send};
 ghost use Rattle.state.specs.Layout.{rowSize, objectRow, objectState, withObjectState};

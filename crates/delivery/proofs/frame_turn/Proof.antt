@@ -1,4 +1,4 @@
--- `message::delivery::frame_turn`: an object of this I-PDU is decoded, unpacked and delivered to, and any other stays.
+-- `delivery::frame_turn`: an object of this I-PDU is decoded, unpacked and delivered to, and any other stays.
 -- Assumes nothing.
 use borrow.Author.Needs.{needs}
 use Rattle.message.proofs.ObjectsInRange.{right-start, decoded-held, decoded-count, decoded-placed}

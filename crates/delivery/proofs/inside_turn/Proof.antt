@@ -1,4 +1,4 @@
--- `message::delivery::inside_turn`: an object of this sender is decoded and delivered to, and any other stays.
+-- `delivery::inside_turn`: an object of this sender is decoded and delivered to, and any other stays.
 -- Assumes nothing.
 use borrow.Author.Needs.{needs}
 use Rattle.message.proofs.ObjectsInRange.{right-start, decoded-held, decoded-count}

@@ -1,4 +1,4 @@
--- `message::delivery::mark_objects`: the invariant is the turns of the objects passed.
+-- `delivery::mark_objects`: the invariant is the turns of the objects passed.
 -- Assumes nothing.
 use borrow.Author.Needs.{needs}
 use mathlib.Core.Path.{_≡_, refl}

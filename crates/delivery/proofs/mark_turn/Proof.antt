@@ -1,4 +1,4 @@
--- `message::delivery::mark_turn`: an object of this I-PDU gets the mark, and any other stays.
+-- `delivery::mark_turn`: an object of this I-PDU gets the mark, and any other stays.
 -- Assumes nothing.
 use borrow.Author.Needs.{needs}
 use Rattle.delivery.proofs.Turns.{mark-other, mark-here}
