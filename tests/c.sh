@@ -29,13 +29,13 @@ for language in c99 cxx; do
         "$out/$name" > "$out/stdout" || { echo "c.sh: $example ended with $?, $language" >&2; exit 1; }
         diff "examples/$name.stdout" "$out/stdout" || { echo "c.sh: $example printed otherwise, $language" >&2; exit 1; }
     done
-    "$language" tests/c/boundary.c -x none "$archive" -o "$out/boundary"
-    "$language" tests/c/groups.c -x none "$archive" -o "$out/groups"
-    "$language" tests/c/counts.c -x none "$archive" -o "$out/counts"
-    "$language" tests/c/osek.c tests/c/controller.c -x none "$archive" -o "$out/osek"
-    boundary=$("$out/boundary") || { echo "$boundary" "($language)" >&2; exit 1; }
-    groups=$("$out/groups") || { echo "$groups" "($language)" >&2; exit 1; }
-    counts=$("$out/counts") || { echo "$counts" "($language)" >&2; exit 1; }
-    osek=$("$out/osek") || { echo "$osek" "($language)" >&2; exit 1; }
+    said=
+    for test in boundary groups counts places osek; do
+        sources=(tests/c/$test.c)
+        [ $test = osek ] && sources+=(tests/c/controller.c)
+        "$language" "${sources[@]}" -x none "$archive" -o "$out/$test"
+        told=$("$out/$test") || { echo "$told" "($language)" >&2; exit 1; }
+        said="$said; $told"
+    done
 done
-echo "c.sh: headers and examples as they should be in C99 and C++; $boundary; $groups; $counts; $osek"
+echo "c.sh: headers and examples as they should be in C99 and C++$said"

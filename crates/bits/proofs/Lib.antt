@@ -1,7 +1,9 @@
 pub mod Numbers
 pub mod Frames
 pub mod Places
+pub mod BigWalk
 pub mod Slots
+pub mod Xor
 pub mod RoundTrip
 pub mod Words
 pub mod Copies

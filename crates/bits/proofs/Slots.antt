@@ -4,12 +4,11 @@ use mathlib.Core.Logic.{⊎-elim}
 use mathlib.Core.Path.{_≡_, refl, sym, ap, _∙_}
 use mathlib.Core.List.{List, [], _∷_, reverse, reverse-cons}
 use Prim.Native.Nat.{ℕ, zero, suc, _+_, _-_, _*_, _/_, _%_, _^_, _≤_, _<_}
-use native.Mathlib.Nat.{mod-le, mul-div-le, mul-le-mul-right, le-trans, lt-of-lt-of-le, add-comm, mul-assoc, mul-add, mul-comm, mod-lt, mod-add-div, le-of-suc-le-suc, not-suc-le-zero}
+use native.Mathlib.Nat.{lt-of-lt-of-le, add-comm, mul-add, mul-comm, mod-lt, mod-add-div, le-of-suc-le-suc, not-suc-le-zero}
 use native.Mathlib.Omega.{arith}
 use lib.ListN.{length, getD, length-reverse, List·getD-append, List·getD-eq-default}
 use lib.Seq.{getD-append-seam}
-use lib.Pow.{pow-pos, pow-mono, pow-add, shl-lt, shr-lt, shr-shr}
-use lib.Arith.{digits-lt}
+use lib.Pow.{pow-pos, pow-mono, shl-lt}
 use Rattle.memory.specs.Bytes.{Bytes, bytesOf}
 use Rattle.bits.specs.declared.Order.{Order}
 use Rattle.bits.specs.declared.Order.the-variants.{Little, Big}
@@ -97,31 +96,15 @@ with-field-above w at size x i =
     (bit-high at _ _ (size + i) (mod-lt w (pow-pos at)) ∙ bit-high size _ _ i (mod-lt x (pow-pos size))
     ∙ bit-div (w / 2 ^ at) size i ∙ bit-div w at (size + i))
 
--- what the code of `with_field` computes on the way stays within a word
-pub old-field-le : (w at size : ℕ) → w / 2 ^ at % 2 ^ size * 2 ^ at ≤ w
-old-field-le w at size =
-    le-trans (mul-le-mul-right (2 ^ at) (mod-le (w / 2 ^ at) (2 ^ size)))
-    (rw (mul-comm (w / 2 ^ at) (2 ^ at)) (mul-div-le w (2 ^ at)))
+-- the parts as digits, the highest first
+pub with-field-digits : (w at size x : ℕ)
+    → withBitField w at size x ≡ (w / 2 ^ at / 2 ^ size * 2 ^ size + x % 2 ^ size) * 2 ^ at + w % 2 ^ at
+with-field-digits w at size x =
+    with-field-parts w at size x ∙ add-comm (w % 2 ^ at) _
+    ∙ ap (λ (n : ℕ). n + w % 2 ^ at) (mul-comm (2 ^ at) _ ∙ ap (λ (n : ℕ). n * 2 ^ at) (add-comm (x % 2 ^ size) _ ∙ ap (λ (n : ℕ). n + x % 2 ^ size) (mul-comm (2 ^ size) _)))
 
-pub new-field-lt : (at size x : ℕ) → at + size ≤ 64 → x % 2 ^ size * 2 ^ at < 2 ^ 64
-new-field-lt at size x h =
+-- a field in its place stays within a word
+pub field-lt : (at size x : ℕ) → at + size ≤ 64 → x % 2 ^ size * 2 ^ at < 2 ^ 64
+field-lt at size x h =
     lt-of-lt-of-le (shl-lt size at (mod-lt x (pow-pos size)))
     (pow-mono (let k : size + at ≤ 64 = omega arith in k))
-
-pub with-field-lt : (w at size x : ℕ) → at + size ≤ 64 → w < 2 ^ 64 → withBitField w at size x < 2 ^ 64
-with-field-lt w at size x h fits =
-    let rest : ℕ = 64 - (at + size) in
-    let whole : rest + (at + size) ≡ 64 = omega arith in
-    let high : w / 2 ^ at / 2 ^ size < 2 ^ rest =
-    rw (shr-shr w at size) (shr-lt rest (at + size) (rw whole fits)) in
-    let upper : w / 2 ^ at / 2 ^ size * 2 ^ size + x % 2 ^ size < 2 ^ rest * 2 ^ size =
-    digits-lt high (mod-lt x (pow-pos size)) in
-    let all : (w / 2 ^ at / 2 ^ size * 2 ^ size + x % 2 ^ size) * 2 ^ at + w % 2 ^ at < 2 ^ rest * 2 ^ size * 2 ^ at =
-    digits-lt upper (mod-lt w (pow-pos at)) in
-    let sum : withBitField w at size x ≡ (w / 2 ^ at / 2 ^ size * 2 ^ size + x % 2 ^ size) * 2 ^ at + w % 2 ^ at =
-    with-field-parts w at size x ∙ add-comm (w % 2 ^ at) _
-    ∙ ap (λ (n : ℕ). n + w % 2 ^ at) (mul-comm (2 ^ at) _ ∙ ap (λ (n : ℕ). n * 2 ^ at) (add-comm (x % 2 ^ size) _ ∙ ap (λ (n : ℕ). n + x % 2 ^ size) (mul-comm (2 ^ size) _))) in
-    let power : 2 ^ rest * 2 ^ size * 2 ^ at ≡ 2 ^ 64 =
-    mul-assoc (2 ^ rest) (2 ^ size) (2 ^ at) ∙ ap (λ (n : ℕ). 2 ^ rest * n) (mul-comm (2 ^ size) (2 ^ at) ∙ sym (pow-add 2 at size))
-    ∙ sym (pow-add 2 rest (at + size)) ∙ ap (λ (n : ℕ). 2 ^ n) whole in
-    rw sum (rw power at all)

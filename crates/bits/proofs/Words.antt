@@ -5,6 +5,7 @@ use mathlib.Core.Path.{_≡_, sym, ap, _∙_}
 use mathlib.Core.List.{List}
 use Prim.Native.Nat.{ℕ, _+_, _-_, _≤_, _<_}
 use native.Mathlib.Omega.{arith}
+use lib.Bits.{bitXor}
 use lib.ListN.{length}
 use Rattle.memory.specs.Bytes.{Bytes, value, bytesOf, numberAt, part, replaced}
 use Rattle.memory.proofs.Parts.{part-bytes, part-length}
@@ -16,6 +17,7 @@ use Rattle.bits.proofs.Numbers.{number-ext}
 use Rattle.bits.proofs.Frames.{frame-ext, value-bit, bytesOf-frame}
 use Rattle.bits.proofs.Places.{position-lt, position-twice, along, place-at, Run}
 use Rattle.bits.proofs.Slots.{turned-bit, field-number, with-field-in, with-field-below, with-field-above}
+use Rattle.bits.proofs.Xor.{turned-difference}
 use Rattle.bits.proofs.RoundTrip.{written-own, written-other}
 
 module _ (o : Order) (start size : ℕ) (f : List ℕ) (bytes : Bytes f) (eight : length f ≡ 8) (here : Run o start size) where
@@ -94,8 +96,9 @@ module _ (o : Order) (base at size : ℕ) (m : List ℕ) {read walk : ℕ} (byte
   field-unpacked e =
       rw (e, turn, word) (slot-unpacked o at size (part base 8 m) (part-bytes base 8 m bytes) (part-length base 8 m room) slot)
 
-  pub field-packed : (v : ℕ) {new back : ℕ} {after : List ℕ} → new ≡ withBitField walk at size v → back ≡ turned o new
-      → after ≡ replaced base (bytesOf 8 back) m → after ≡ replaced base (packed o (position o at) size v (part base 8 m)) m
+  pub field-packed : (v : ℕ) {new change : ℕ} {after : List ℕ} → new ≡ withBitField walk at size v → change ≡ turned o (bitXor walk new)
+      → after ≡ replaced base (bytesOf 8 (bitXor read change)) m
+      → after ≡ replaced base (packed o (position o at) size v (part base 8 m)) m
   unfolding numberAt
-  field-packed v new back after =
-      rw (after, back, new, turn, word, slot-packed o at size (part base 8 m) (part-bytes base 8 m bytes) (part-length base 8 m room) slot v)
+  field-packed v new change after =
+      rw (after, change, turn, turned-difference, new, turn, word, slot-packed o at size (part base 8 m) (part-bytes base 8 m bytes) (part-length base 8 m room) slot v)

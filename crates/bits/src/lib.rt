@@ -95,15 +95,17 @@ pub fn unpack(frame: &[u8], order: Order, start: u32, size: BitSize) -> Unpackin
     Unpacking::Value(unpack_slot(&slot, 0, order, at, size))
 }
 
-// `pack` in the slot from byte `base` of `m` on, for a message that starts `at` bits along its order's walk.
+// `pack` in the slot from byte `base` of `m` on, for a message that starts `at` bits along its order's walk. The bits
+// that differ are found along the walk, turned back and inverted in the slot.
 pub fn pack_slot(m: &mut [u8], base: usize, order: Order, at: u32, size: BitSize, value: u32)
     requires { ⌜ (base + 8 ≤ length (now m)) × InSlot at (size .0) ⌝ }
     ensures { λ _. ⌜ now (m .exit) ≡ replaced base (packed order (position order at) (size .0) value (part base 8 (now (m .entry)))) (now (m .entry)) ⌝ }
 {
     let bits = size.0;
-    let old = word::turned(order, memory::read64(m, base));
+    let slot = memory::read64(m, base);
+    let old = word::turned(order, slot);
     let new = word::with_field(old, at, bits, value);
-    memory::write64(m, base, word::turned(order, new));
+    memory::write64(m, base, slot ^ word::turned(order, old ^ new));
 }
 
 // `unpack` of that slot.

@@ -58,14 +58,11 @@ pub(crate) fn ones(at: u32, bits: u32) -> u64
     (power_of_two(bits) - 1) * power_of_two(at)
 }
 
-// The word with the low `bits` bits of `x` from bit `at` on.
+// The word with the low `bits` bits of `x` from bit `at` on: the bits of the field that differ are inverted.
 pub(crate) fn with_field(word: u64, at: u32, bits: u32, x: u32) -> u64
     requires { ⌜ (at + bits ≤ 64) × (at < 64) × (bits ≤ 32) ⌝ }
     ensures { λ r. ⌜ r ≡ withBitField word at bits x ⌝ }
 {
-    let p = power_of_two(at);
-    let q = power_of_two(bits);
-    let old = word / p % q * p;
-    let new = (x as u64) % q * p;
-    word - old + new
+    let differing = ((field(word, at, 32) ^ x) as u64) % power_of_two(bits);
+    word ^ differing * power_of_two(at)
 }

@@ -1,45 +1,38 @@
--- `bits::word::with_field`: the laws of `Slots` bound what is computed on the way.
+-- `bits::word::with_field`: inverting the bits that differ is `withBitField` (`field-difference`).
 -- Assumes nothing.
-use native.Mathlib.Omega.{arith}
 use borrow.Author.Needs.{needs}
+use native.Mathlib.Omega.{arith}
+use lib.Bits.{xor-lt}
 use lib.Pow.{pow-pos}
-use Rattle.bits.specs.Slots.{bitField, withBitField}
-use Rattle.bits.proofs.Slots.{old-field-le, new-field-lt, with-field-lt}
+use Rattle.bits.proofs.Slots.{field-lt}
+use Rattle.bits.proofs.Xor.{field-difference}
 use Rattle.bits.proofs.word.with_field.Statement.{statement}
 use Rattle.bits.proofs.word.with_field.Tie as tie
 
-mul-old : tie.Need-mul-old
-mul-old c =
-    let le = old-field-le (c .before .before .args .word) (c .before .before .args .at) (c .before .before .args .bits) in
-    rw (c .before .power-of-two .ensures, c .power-of-two2 .ensures) (omega arith)
+cast-differing : tie.Need-cast-differing
+cast-differing c =
+    record { fits = xor-lt 64 (c .field .result) (c .before .args .x) (omega (arith, c .field .ok)) (omega arith) }
 
-mul-new : tie.Need-mul-new
-mul-new c =
-    rw (c .before .power-of-two .ensures, c .power-of-two2 .ensures)
-    (record { fits = new-field-lt _ _ _ (c .before .before .pre .0) })
+mul-result : tie.Need-mul-result
+mul-result c =
+    let at-entry = c .before .before .before in
+    rw (c .before .power-of-two .ensures, c .power-of-two2 .ensures) (record { fits = field-lt _ _ _ (at-entry .pre .0) })
 
-sub-result : tie.Need-sub-result
-sub-result c = rw (c .before .power-of-two .ensures, c .power-of-two2 .ensures) (old-field-le _ _ _)
-
-add-result : tie.Need-add-result
-unfolding bitField withBitField
-add-result c =
-    let a = c .before .before .args in
-    rw (c .before .power-of-two .ensures, c .power-of-two2 .ensures)
-    (record { fits = with-field-lt (a .word) (a .at) (a .bits) (a .x) (c .before .before .pre .0) (omega arith) })
+returns : tie.Need-returns
+returns c =
+    let at-entry = c .before .before .before in
+    let a = at-entry .args in
+    rw (c .before .power-of-two .ensures, c .power-of-two2 .ensures, c .before .before .field .ensures)
+    (field-difference (a .word) (a .at) (a .bits) (a .x) (at-entry .pre .2))
 
 pub with-field-spec : {M : Type 1} → statement M
-unfolding bitField withBitField
 with-field-spec =
     tie.close
     (tie.spec
     (λ c κs. search needs)
+    cast-differing
     (λ c κs. search needs)
-    (λ c. rw (c .before .power-of-two .ensures) (pow-pos _))
-    (λ c. rw (c .power-of-two2 .ensures) (pow-pos _))
-    mul-old
-    (λ c. rw (c .power-of-two2 .ensures) (pow-pos _))
-    mul-new
-    sub-result
-    add-result
-    (λ c. rw (c .before .power-of-two .ensures, c .power-of-two2 .ensures)))
+    (λ c. rw (c .power-of-two .ensures) (pow-pos _))
+    (λ c κs. search needs)
+    mul-result
+    returns)

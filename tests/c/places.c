@@ -1,0 +1,124 @@
+/*
+ * The places of a reading's bits, called from C. The list of the 64 places of the big walk stands
+ * here as document 01 gives it; the layer works each place out (request W-204). Every reading of
+ * 1 to 32 bits that has room in 8 bytes is sent and received under both orders, and each of its
+ * bits has to stand where the list says, and no other.
+ */
+#define TEST "places.c"
+#include "checks.h"
+
+static const uint8_t big_walk[64] = {
+    56, 57, 58, 59, 60, 61, 62, 63, 48, 49, 50, 51, 52, 53, 54, 55,
+    40, 41, 42, 43, 44, 45, 46, 47, 32, 33, 34, 35, 36, 37, 38, 39,
+    24, 25, 26, 27, 28, 29, 30, 31, 16, 17, 18, 19, 20, 21, 22, 23,
+    8,  9,  10, 11, 12, 13, 14, 15, 0,  1,  2,  3,  4,  5,  6,  7,
+};
+
+enum { SENT, RECEIVED };
+
+#define TABLE_SIZE 112
+
+static const uint8_t right_table[TABLE_SIZE] = {
+    /* 2 I-PDUs, 2 message objects, records at 16 and 48, 112 bytes */
+    2, 0, 2, 0, 16, 0, 48, 0, 112, 0, 0, 0, 0, 0, 0, 0,
+    /* sent direct, 8 bytes, no minimum delay, deadline 10 */
+    1, 8, 0, 0, 0, 0, 0, 0, 0, 0, 10, 0, 0, 0, 0, 0,
+    /* received, 8 bytes, no deadline */
+    2, 8, 0, 0, 0, 0, 0, 0, 0, 0, 0, 0, 0, 0, 0, 0,
+    /* sent: triggered, filter 0; bytes 3 to 5, start, length and order, are filled in */
+    1, SENT, 255, 0, 1, 0, 0, 0, 0, 0, 0, 0, 0, 0, 0, 0,
+    0, 0, 0, 0, 0, 0, 0, 0, 0, 0, 0, 0, 0, 0, 0, 0,
+    /* received: unqueued, filter 0; the same place in the other I-PDU */
+    2, RECEIVED, 255, 0, 1, 0, 0, 0, 0, 0, 0, 0, 0, 0, 0, 0,
+    0, 0, 0, 0, 0, 0, 0, 0, 0, 0, 0, 0, 0, 0, 0, 0,
+};
+
+#include "lent.h"
+
+#define OBJECT(object) (lent.table + 48 + 32 * (object))
+
+enum { LITTLE, BIG };
+
+/* The bit that stands so far along an order's walk through 8 bytes. */
+static unsigned walk(int order, unsigned along)
+{
+    return order == BIG ? big_walk[along] : along;
+}
+
+/* Both objects: so many bits, from the bit that stands so far along the walk. */
+static void place(int order, unsigned along, unsigned size)
+{
+    int object;
+    memcpy(lent.table, right_table, TABLE_SIZE);
+    for (object = SENT; object <= RECEIVED; object++) {
+        OBJECT(object)[3] = (uint8_t)walk(order, along);
+        OBJECT(object)[4] = (uint8_t)size;
+        OBJECT(object)[5] = (uint8_t)order;
+    }
+}
+
+/* A value sent stands in the frame at the places of the list, and is received from there. */
+static void there_and_back(int order, unsigned along, unsigned size, uint32_t value)
+{
+    uint8_t frame[8] = {0};
+    uint32_t low = 0;
+    unsigned i;
+    for (i = 0; i < size; i++) {
+        unsigned bit = walk(order, along + i);
+        frame[bit / 8] = (uint8_t)(frame[bit / 8] | (value >> i & 1) << bit % 8);
+        low |= value & (uint32_t)1 << i;
+    }
+    ANSWERS(birnenschloss_send(LENT, AREA, SENT, value), 0, 1);
+    ANSWERS(birnenschloss_confirm(LENT, SENT, 1), 0, 0);
+    REQUIRE(memcmp(lent.area, frame, 8) == 0);
+    ANSWERS(birnenschloss_indication(LENT, RECEIVED, 1, frame, 8), 0, 0);
+    ANSWERS(birnenschloss_receive(LENT, RECEIVED), 0, low);
+}
+
+/* What the check of the table answers: 0, or 5 with the object that is wrong. */
+static void checked(int right, uint32_t object)
+{
+    NOTE_BYTES();
+    ANSWERS(birnenschloss_check(lent.table, TABLE_SIZE), right ? 0 : BIRNENSCHLOSS_E_TABLE,
+            right ? 0 : 256 + object);
+    SAME_BYTES();
+}
+
+/* Two readings of one bit, the second little: the table is wrong where they share it. */
+static void shared(int order, unsigned along)
+{
+    unsigned bit;
+    for (bit = 0; bit < 64; bit++) {
+        place(order, along, 1);
+        memcpy(OBJECT(1), OBJECT(0), 32);
+        OBJECT(1)[3] = (uint8_t)bit;
+        OBJECT(1)[5] = LITTLE;
+        checked(bit != walk(order, along), 1);
+    }
+}
+
+int main(void)
+{
+    int order;
+    unsigned along, size, i;
+    memset(lent.area, 0xC3, AREA_LENT);
+    for (order = LITTLE; order <= BIG; order++) {
+        for (along = 0; along < 64; along++) {
+            for (size = 1; size <= 32; size++) {
+                place(order, along, size);
+                checked(along + size <= 64, 0);
+                if (along + size > 64)
+                    continue;
+                memset(lent.memory, 0xA5, MEMORY_LENT);
+                ANSWERS(birnenschloss_start(LENT), 0, 0);
+                for (i = 0; i < 32; i++) {
+                    there_and_back(order, along, size, (uint32_t)1 << i);
+                    there_and_back(order, along, size, ~((uint32_t)1 << i));
+                }
+            }
+            shared(order, along);
+        }
+    }
+    printf("places.c: %u answers as they should be\n", answers);
+    return 0;
+}
