@@ -1,6 +1,6 @@
--- `bits::walk::position`: turning the byte's number round is `position Big` at each of the 64 places, by one computed equation.
+-- `bits::walk::position`: turning the byte's number round gives `position Big` at each of the 64 places, by one computed equation.
 -- Assumes nothing.
-use mathlib.Core.Path.{_≡_, refl, sym, ap, _∙_}
+use mathlib.Core.Path.{_≡_, sym, ap, _∙_}
 use mathlib.Core.List.{List}
 use Prim.Native.Nat.{ℕ, _<_}
 use borrow.Author.Needs.{needs}
@@ -12,18 +12,18 @@ use Rattle.memory.proofs.Tests.{tabulate, tabulate-at}
 use Rattle.bits.proofs.walk.position.Statement.{statement}
 use Rattle.bits.proofs.walk.position.Tie as tie
 
-all-places : tabulate 64 (λ p. bitXor p 56) ≡ tabulate 64 (position Big)
-unfolding position
-all-places = refl
+-- turning by this number gives the definition's place for each of the 64
+abbrev Turns : ℕ → Type 0
+Turns mask = tabulate 64 (λ p. bitXor p mask) ≡ tabulate 64 (position Big)
 
-turned-round : (p : ℕ) → p < 64 → bitXor p 56 ≡ position Big p
-turned-round p h =
-    sym (tabulate-at 64 (λ k. bitXor k 56) p h) ∙ ap (λ (l : List ℕ). getD l p 0) all-places ∙ tabulate-at 64 (position Big) p h
+turned-round : {mask p : ℕ} → p < 64 → Turns mask → bitXor p mask ≡ position Big p
+turned-round {mask} {p} h same =
+    sym (tabulate-at 64 (λ k. bitXor k mask) p h) ∙ ap (λ (l : List ℕ). getD l p 0) same ∙ tabulate-at 64 (position Big) p h
 
+-- the code's number does so: `Turns` of it is computed
 returns-2 : tie.Need-returns-2
-returns-2 c =
-    let at-entry = c .before .before in
-    rw (c .enum-told2 .given .1) (turned-round (at-entry .args .place) (at-entry .pre))
+unfolding position
+returns-2 c = rw (c .enum-told2 .given .1) (search (needs, turned-round))
 
 pub position-spec : {M : Type 1} → statement M
 unfolding position
