@@ -17,8 +17,8 @@ size $archive | awk 'NR > 1 { printf "code and constants %d, data %d, zeroed dat
 printf '%-32s %6s %9s %6s\n' function code constants stack
 size -A $archive | awk '
     FNR == NR { stack["birnenschloss_" $1] = $2; next }
-    sub(/^\.text\./, "", $1) { code[$1] = $2 }
-    sub(/^\.rodata\./, "", $1) { constants[$1] = $2 }
+    sub(/^\.text\./, "", $1) { code[$1] += $2 }
+    sub(/^\.rodata\./, "", $1) { constants[$1] += $2 }
     END {
         for (f in constants) code[f] += 0
         for (f in code) printf "%-32s %6d %9d %6s\n", f, code[f], constants[f], stack[f]

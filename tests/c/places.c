@@ -1,8 +1,8 @@
 /*
  * The places of a reading's bits, called from C. The list of the 64 places of the big walk stands
  * here as document 01 gives it; the layer works each place out (request W-204). Every reading of
- * 1 to 32 bits that has room in 8 bytes is sent and received under both orders, and each of its
- * bits has to stand where the list says, and no other.
+ * 1 to 32 bits that has room in 8 bytes is sent and received under both orders: its bits have to
+ * stand where the list says, all others of the frame are 0, and none of them is received.
  */
 #define TEST "places.c"
 #include "checks.h"
@@ -14,7 +14,7 @@ static const uint8_t big_walk[64] = {
     8,  9,  10, 11, 12, 13, 14, 15, 0,  1,  2,  3,  4,  5,  6,  7,
 };
 
-enum { SENT, RECEIVED };
+enum { SENT, RECEIVED }; /* numbers of the objects, and here of their I-PDUs too */
 
 #define TABLE_SIZE 112
 
@@ -57,21 +57,26 @@ static void place(int order, unsigned along, unsigned size)
     }
 }
 
-/* A value sent stands in the frame at the places of the list, and is received from there. */
+/* A value sent stands in the frame at the places of the list, and is received from there; with
+ * every other bit of the frame set too. */
 static void there_and_back(int order, unsigned along, unsigned size, uint32_t value)
 {
-    uint8_t frame[8] = {0};
+    uint8_t frame[8] = {0}, full[8];
     uint32_t low = 0;
     unsigned i;
+    memset(full, 0xFF, sizeof full);
     for (i = 0; i < size; i++) {
         unsigned bit = walk(order, along + i);
         frame[bit / 8] = (uint8_t)(frame[bit / 8] | (value >> i & 1) << bit % 8);
+        full[bit / 8] = (uint8_t)(full[bit / 8] ^ (~value >> i & 1) << bit % 8);
         low |= value & (uint32_t)1 << i;
     }
     ANSWERS(birnenschloss_send(LENT, AREA, SENT, value), 0, 1);
     ANSWERS(birnenschloss_confirm(LENT, SENT, 1), 0, 0);
     REQUIRE(memcmp(lent.area, frame, 8) == 0);
     ANSWERS(birnenschloss_indication(LENT, RECEIVED, 1, frame, 8), 0, 0);
+    ANSWERS(birnenschloss_receive(LENT, RECEIVED), 0, low);
+    ANSWERS(birnenschloss_indication(LENT, RECEIVED, 1, full, 8), 0, 0);
     ANSWERS(birnenschloss_receive(LENT, RECEIVED), 0, low);
 }
 
@@ -84,7 +89,8 @@ static void checked(int right, uint32_t object)
     SAME_BYTES();
 }
 
-/* Two readings of one bit, the second little: the table is wrong where they share it. */
+/* Two sent readings of one bit each, the second little: the table is wrong exactly where both have
+ * the same bit. */
 static void shared(int order, unsigned along)
 {
     unsigned bit;

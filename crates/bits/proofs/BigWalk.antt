@@ -1,4 +1,4 @@
--- Document 01's list of 64 places gives the big walk. No code reads it: it is an example that the definitions are held to.
+-- Document 01's list of 64 places gives the big walk. The library does not read it: it is an example that the definitions are held to.
 -- Assumes nothing.
 use mathlib.Core.Path.{_≡_, refl, sym, ap, _∙_}
 use mathlib.Core.List.{List, [], _∷_}

@@ -1,5 +1,5 @@
--- Laws of `^`: a word changed by its difference from another is the other, also with the difference turned.
--- Assumes nothing.
+-- Laws of `bitXor`, the code's `^`: a word changed by its difference from another is the other, also with the difference turned; a
+-- field whose differing bits are inverted holds the new value. Assumes nothing.
 use mathlib.Core.Path.{_≡_, refl, sym, ap, ap₂, _∙_}
 use Prim.Native.Nat.{ℕ, zero, suc, _+_, _-_, _*_, _/_, _%_, _^_, _≤_, _<_}
 use native.Mathlib.Nat.{add-zero, mod-lt, div-add-mod'}

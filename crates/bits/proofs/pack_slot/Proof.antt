@@ -1,4 +1,4 @@
--- `bits::pack_slot`: the field put into the slot's turned word is the message packed (`field-packed`).
+-- `bits::pack_slot`: the slot with the differing bits inverted is the message packed (`field-packed`).
 -- Assumes nothing.
 use native.Mathlib.Omega.{arith}
 use borrow.Author.Needs.{needs}

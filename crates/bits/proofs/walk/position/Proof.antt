@@ -14,11 +14,11 @@ use Rattle.bits.proofs.walk.position.Tie as tie
 
 -- turning by this number gives the definition's place for each of the 64
 abbrev Turns : ℕ → Type 0
-Turns mask = tabulate 64 (λ p. bitXor p mask) ≡ tabulate 64 (position Big)
+Turns number = tabulate 64 (λ p. bitXor p number) ≡ tabulate 64 (position Big)
 
-turned-round : {mask p : ℕ} → p < 64 → Turns mask → bitXor p mask ≡ position Big p
-turned-round {mask} {p} h same =
-    sym (tabulate-at 64 (λ k. bitXor k mask) p h) ∙ ap (λ (l : List ℕ). getD l p 0) same ∙ tabulate-at 64 (position Big) p h
+turned-round : {number p : ℕ} → p < 64 → Turns number → bitXor p number ≡ position Big p
+turned-round {number} {p} h same =
+    sym (tabulate-at 64 (λ k. bitXor k number) p h) ∙ ap (λ (l : List ℕ). getD l p 0) same ∙ tabulate-at 64 (position Big) p h
 
 -- the code's number does so: `Turns` of it is computed
 returns-2 : tie.Need-returns-2
