@@ -1,8 +1,9 @@
 /*
  * The places of a reading's bits, called from C. The list of the 64 places of the big walk stands
  * here as document 01 gives it; the layer works each place out (request W-204). Every reading of
- * 1 to 32 bits that has room in 8 bytes is sent and received under both orders: its bits have to
- * stand where the list says, all others of the frame are 0, and none of them is received.
+ * 1 to 32 bits that has room in 8 bytes is started, initialised, sent and received under both
+ * orders: its bits have to stand where the list says, all others of the frame are 0, and none of
+ * them is received.
  */
 #define TEST "places.c"
 #include "checks.h"
@@ -21,11 +22,12 @@ enum { SENT, RECEIVED }; /* numbers of the objects, and here of their I-PDUs too
 static const uint8_t right_table[TABLE_SIZE] = {
     /* 2 I-PDUs, 2 message objects, records at 16 and 48, 112 bytes */
     2, 0, 2, 0, 16, 0, 48, 0, 112, 0, 0, 0, 0, 0, 0, 0,
-    /* sent direct, 8 bytes, no minimum delay, deadline 10 */
-    1, 8, 0, 0, 0, 0, 0, 0, 0, 0, 10, 0, 0, 0, 0, 0,
+    /* sent mixed, 8 bytes, period 1, offset 1, no minimum delay, deadline 10 */
+    1, 8, 2, 0, 1, 0, 1, 0, 0, 0, 10, 0, 0, 0, 0, 0,
     /* received, 8 bytes, no deadline */
     2, 8, 0, 0, 0, 0, 0, 0, 0, 0, 0, 0, 0, 0, 0, 0,
-    /* sent: triggered, filter 0; bytes 3 to 5, start, length and order, are filled in */
+    /* sent: triggered, filter 0; bytes 3 to 5, start, length and order, are filled in, and bytes 12
+     * to 15, the initial value */
     1, SENT, 255, 0, 1, 0, 0, 0, 0, 0, 0, 0, 0, 0, 0, 0,
     0, 0, 0, 0, 0, 0, 0, 0, 0, 0, 0, 0, 0, 0, 0, 0,
     /* received: unqueued, filter 0; the same place in the other I-PDU */
@@ -45,35 +47,58 @@ static unsigned walk(int order, unsigned along)
     return order == BIG ? big_walk[along] : along;
 }
 
-/* Both objects: so many bits, from the bit that stands so far along the walk. */
-static void place(int order, unsigned along, unsigned size)
+/* An object's place: so many bits, from the bit that stands so far along the walk. */
+static void place(int object, int order, unsigned along, unsigned size)
 {
-    int object;
-    memcpy(lent.table, right_table, TABLE_SIZE);
-    for (object = SENT; object <= RECEIVED; object++) {
-        OBJECT(object)[3] = (uint8_t)walk(order, along);
-        OBJECT(object)[4] = (uint8_t)size;
-        OBJECT(object)[5] = (uint8_t)order;
+    OBJECT(object)[3] = (uint8_t)walk(order, along);
+    OBJECT(object)[4] = (uint8_t)size;
+    OBJECT(object)[5] = (uint8_t)order;
+}
+
+/* The frame in which a value's bits stand at the places of the list; each byte's other bits are
+ * those of `others`. */
+static void lay(int order, unsigned along, unsigned size, uint32_t value, uint8_t others,
+                uint8_t frame[8])
+{
+    unsigned i;
+    memset(frame, others, 8);
+    for (i = 0; i < size; i++) {
+        unsigned bit = walk(order, along + i);
+        uint8_t own = (uint8_t)(1 << bit % 8);
+        if (value >> i & 1)
+            frame[bit / 8] = (uint8_t)(frame[bit / 8] | own);
+        else
+            frame[bit / 8] = (uint8_t)(frame[bit / 8] & ~own);
     }
 }
 
-/* A value sent stands in the frame at the places of the list, and is received from there; with
- * every other bit of the frame set too. */
+/* A call that asks for the frame, which then is as it should be. */
+static void hands_over(birnenschloss_answer a, const uint8_t frame[8])
+{
+    ANSWERS(a, 0, 1);
+    REQUIRE(memcmp(lent.area, frame, 8) == 0);
+    ANSWERS(birnenschloss_confirm(LENT, SENT, 1), 0, 0);
+}
+
+/* A value is put into the I-PDU by a start, its inverse by an initialise, and the value again by a
+ * send. It is received from its places, also with every other bit of the frame set. */
 static void there_and_back(int order, unsigned along, unsigned size, uint32_t value)
 {
-    uint8_t frame[8] = {0}, full[8];
-    uint32_t low = 0;
+    uint8_t frame[8], inverse[8], full[8];
+    uint32_t low = value & 0xFFFFFFFF >> (32 - size);
     unsigned i;
-    memset(full, 0xFF, sizeof full);
-    for (i = 0; i < size; i++) {
-        unsigned bit = walk(order, along + i);
-        frame[bit / 8] = (uint8_t)(frame[bit / 8] | (value >> i & 1) << bit % 8);
-        full[bit / 8] = (uint8_t)(full[bit / 8] ^ (~value >> i & 1) << bit % 8);
-        low |= value & (uint32_t)1 << i;
-    }
-    ANSWERS(birnenschloss_send(LENT, AREA, SENT, value), 0, 1);
-    ANSWERS(birnenschloss_confirm(LENT, SENT, 1), 0, 0);
-    REQUIRE(memcmp(lent.area, frame, 8) == 0);
+    lay(order, along, size, value, 0, frame);
+    lay(order, along, size, ~value, 0, inverse);
+    lay(order, along, size, value, 0xFF, full);
+    for (i = 0; i < 4; i++)
+        OBJECT(SENT)[12 + i] = (uint8_t)(value >> 8 * i);
+    memset(lent.memory, 0xA5, MEMORY_LENT);
+    ANSWERS(birnenschloss_start(LENT), 0, 0);
+    ANSWERS(birnenschloss_start_periodic(LENT), 0, 0);
+    hands_over(birnenschloss_tick(LENT, AREA), frame);
+    ANSWERS(birnenschloss_initialise(LENT, SENT, ~value), 0, 0);
+    hands_over(birnenschloss_tick(LENT, AREA), inverse);
+    hands_over(birnenschloss_send(LENT, AREA, SENT, value), frame);
     ANSWERS(birnenschloss_indication(LENT, RECEIVED, 1, frame, 8), 0, 0);
     ANSWERS(birnenschloss_receive(LENT, RECEIVED), 0, low);
     ANSWERS(birnenschloss_indication(LENT, RECEIVED, 1, full, 8), 0, 0);
@@ -89,17 +114,19 @@ static void checked(int right, uint32_t object)
     SAME_BYTES();
 }
 
-/* Two sent readings of one bit each, the second little: the table is wrong exactly where both have
- * the same bit. */
+/* Two sent readings of one bit each: the table is wrong exactly where both have the same bit. */
 static void shared(int order, unsigned along)
 {
+    int other;
     unsigned bit;
-    for (bit = 0; bit < 64; bit++) {
-        place(order, along, 1);
-        memcpy(OBJECT(1), OBJECT(0), 32);
-        OBJECT(1)[3] = (uint8_t)bit;
-        OBJECT(1)[5] = LITTLE;
-        checked(bit != walk(order, along), 1);
+    for (other = LITTLE; other <= BIG; other++) {
+        for (bit = 0; bit < 64; bit++) {
+            memcpy(lent.table, right_table, TABLE_SIZE);
+            memcpy(OBJECT(1), OBJECT(0), 32);
+            place(0, order, along, 1);
+            place(1, other, bit, 1);
+            checked(walk(order, along) != walk(other, bit), 1);
+        }
     }
 }
 
@@ -110,19 +137,19 @@ int main(void)
     memset(lent.area, 0xC3, AREA_LENT);
     for (order = LITTLE; order <= BIG; order++) {
         for (along = 0; along < 64; along++) {
+            shared(order, along);
+            memcpy(lent.table, right_table, TABLE_SIZE);
             for (size = 1; size <= 32; size++) {
-                place(order, along, size);
+                place(SENT, order, along, size);
+                place(RECEIVED, order, along, size);
                 checked(along + size <= 64, 0);
                 if (along + size > 64)
                     continue;
-                memset(lent.memory, 0xA5, MEMORY_LENT);
-                ANSWERS(birnenschloss_start(LENT), 0, 0);
                 for (i = 0; i < 32; i++) {
                     there_and_back(order, along, size, (uint32_t)1 << i);
                     there_and_back(order, along, size, ~((uint32_t)1 << i));
                 }
             }
-            shared(order, along);
         }
     }
     printf("places.c: %u answers as they should be\n", answers);
