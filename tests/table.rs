@@ -1,8 +1,9 @@
 //! A second table check, and a comparison of the library's check with it.
-//! `place` is written from document 01 alone ("The table", "Bits", "Filters"), not from the
-//! crates. Right, wrong and damaged tables are made, and each must get the same answer from
-//! `place` and from the library. Arguments, both optional: the seed, the least number of tables.
-//! With `--cfg own` the library is left out, to try the making of the tables alone.
+//! `place` is written from document 01 alone ("The table", "Bits", "Filters") and request W-205 of
+//! document 02, not from the crates. Right, wrong and damaged tables are made, many of them with
+//! send objects that share bits, and each must get the same answer from `place` and the library.
+//! Arguments, both optional: the seed, the least number of tables. With `--cfg own` the library
+//! is left out, to try the making of the tables alone.
 
 #[repr(C)]
 #[derive(Clone, Copy, PartialEq, Debug)]
@@ -30,22 +31,12 @@ pub fn place(table: &[u8]) -> Option<u32> {
     let ipdus: Vec<&[u8]> = front.chunks(16).collect();
     let objects: Vec<&[u8]> = back.chunks(32).collect();
     if let Some(k) = ipdus.iter().position(|r| !ipdu_right(r)) { return Some(k as u32); }
-    // The bits of each I-PDU that lower send objects have, and the sum of the depths so far.
-    let (mut taken, mut depths) = (vec![[false; 64]; ipdus.len()], 0);
-    for (j, r) in objects.iter().enumerate() {
-        let here = Some(256 + j as u32);
-        if !object_right(r, &ipdus, &objects) { return here; }
-        if r[0] == 1 && r[1] != 255 {
-            let k = r[1] as usize;
-            for bit in walk(r[3], r[4], r[5], ipdus[k][1]).expect("right by itself") {
-                if taken[k][bit] { return here; }
-                taken[k][bit] = true;
-            }
-        }
+    let mut depths = 0;
+    let wrong = |r: &&[u8]| {
         depths += r[7] as u32;
-        if depths > 512 { return here; }
-    }
-    None
+        !object_right(r, &ipdus, &objects) || depths > 512
+    };
+    objects.iter().position(wrong).map(|j| 256 + j as u32)
 }
 
 fn header_right(table: &[u8]) -> bool {
@@ -186,29 +177,30 @@ fn right_filter(run: &mut Run, r: &mut [u8; 32]) {
     }
 }
 
-/// A start, size and order with no bit that is taken; None where the chosen start is.
-fn right_bits(run: &mut Run, taken: &[bool; 64], length: u8) -> Option<[u8; 3]> {
+/// A start, size and order with room.
+fn right_bits(run: &mut Run, length: u8) -> [u8; 3] {
     let (start, order) = (run.below(8 * length as usize) as u8, run.below(2) as u8);
-    let free = |bits: Vec<usize>| bits.iter().all(|&b| !taken[b]);
-    let room = (1..=32).take_while(|&n| walk(start, n, order, length).is_some_and(free)).last()?;
-    Some([start, run.pick(&[1, 1 + run.random as u8 % room, room]), order])
+    let room = (1..=32).take_while(|&n| walk(start, n, order, length).is_some()).last().unwrap();
+    [start, run.pick(&[1, 1 + run.random as u8 % room, room]), order]
 }
 
 pub fn right_table(run: &mut Run, ipdus: usize, objects: usize) -> Vec<u8> {
     let ipdus: Vec<[u8; 16]> = (0..ipdus).map(|_| right_ipdu(run)).collect();
-    let sends = run.pick(&[0, 1, 5, 9, 10]);
+    let sends = run.pick(&[0, 1, 5, 7, 8, 9, 9, 10]);
     let kinds: Vec<u8> = (0..objects).map(|_| 2 - (run.below(10) < sends) as u8).collect();
     let (deep, mut left) = (run.below(2) == 0, 512);
-    let (mut taken, mut objects) = (vec![[false; 64]; ipdus.len()], Vec::new());
+    let mut objects: Vec<[u8; 32]> = Vec::new();
     for &kind in &kinds {
         let mut r = object(&[kind, 255, 255, 0, 32]);
         let tries = if ipdus.is_empty() { 0 } else { run.pick(&[0, 10, 10, 10]) };
         for _ in 0..tries {
             let k = run.below(ipdus.len());
             if ipdus[k][0] != kind { continue; }
-            let Some(b) = right_bits(run, &taken[k], ipdus[k][1]) else { continue };
+            let b = right_bits(run, ipdus[k][1]);
             r = object(&[kind, k as u8, 255, b[0], b[1], b[2]]);
-            for bit in walk(b[0], b[1], b[2], 8).unwrap() { taken[k][bit] = kind == 1; }
+            // Now and then the very bits of the object before.
+            let before = objects.last().filter(|o| o[0] == kind && o[1] < 255);
+            if let (Some(o), 0) = (before, run.below(4)) { r[1..6].copy_from_slice(&o[1..6]); }
             break;
         }
         if kind == 1 { r[6] = run.below(2) as u8; }
@@ -274,11 +266,11 @@ fn changes(run: &mut Run) {
     }
 }
 
-/// Two pairs of objects with the same two sets of bits, that share none, one or more.
+/// Two pairs of objects with the same two sets of bits, that share none, one or more: no matter.
 fn pairs(run: &mut Run) {
     let (length, want) = (1 + run.below(8) as u8, run.below(3));
     let (a, b) = loop {
-        let [a, b] = [0; 2].map(|_| right_bits(run, &[false; 64], length).unwrap());
+        let [a, b] = [0; 2].map(|_| right_bits(run, length));
         let [x, y] = [a, b].map(|[start, size, order]| walk(start, size, order, length).unwrap());
         let shared = x.iter().filter(|bit| y.contains(bit)).count();
         let near = x.iter().any(|p| y.iter().any(|q| p.abs_diff(*q) <= 1));
@@ -296,13 +288,13 @@ fn pairs(run: &mut Run) {
         if wrong < n { objects[wrong][31] = 1; }
         join(&ipdus, &objects)
     };
-    let known = |at: usize| if at < n { Some(256 + at as u32) } else { None };
-    let [one, other] = [0, 2].map(|i| if want > 0 { spots[i].max(spots[i + 1]) } else { n });
-    run.expect(&make(&[(0, a), (0, b)], n), known(one));
-    run.expect(&make(&[(0, a), (0, b), (1, a), (1, b)], n), known(one.min(other)));
+    run.expect(&make(&[(0, a), (0, b)], n), None);
+    run.expect(&make(&[(0, a), (0, b), (1, a), (1, b)], n), None);
     run.expect(&make(&[(0, a), (1, b), (2, a), (2, b)], n), None);
-    let wrong = run.below(n);
-    run.expect(&make(&[(0, a), (0, b)], wrong), known(one.min(wrong)));
+    // One of them, or another, is wrong otherwise.
+    for wrong in [spots[0], spots[1], run.below(n)] {
+        run.expect(&make(&[(0, a), (0, b)], wrong), Some(256 + wrong as u32));
+    }
 }
 
 /// Depths with the sum 512, then 513, in any order, with other faults above and below.
@@ -319,7 +311,7 @@ fn depths(run: &mut Run) {
     let (last, wrong) = (list.iter().rposition(|&d| d > 0).unwrap(), run.below(list.len()));
     list.extend(run.pick(&[[0, 0], [0, 17], [18, 18]]));
     run.expect(&make(&list), Some(256 + last as u32));
-    run.expect(&make(&[&[18, 18], &list[..]].concat()), Some(257));
+    run.expect(&make(&[&[18, 18], &list[..]].concat()), Some(258 + last as u32));
     list[wrong] = 17;
     run.expect(&make(&list), Some(256 + last.min(wrong) as u32));
 }

@@ -2,6 +2,7 @@
 //! looks at the state of the reference only to choose arguments that meet interesting places.
 
 use crate::call::Call;
+use crate::kept::overlaps;
 use crate::records::{pack, Object};
 use crate::reference::Layer;
 use crate::table::{place, right_table, Run, WORDS};
@@ -24,9 +25,20 @@ fn put_four(t: &mut [u8], at: usize, value: u32) {
 
 // ---- Tables ----
 
-/// A right table with short times and queues, and filters that values can meet; one table in six
-/// has many objects with filter 14, and of the receivers inside one in four has it.
+/// A right table; most have send objects that share bits.
 pub fn right(run: &mut Run) -> Vec<u8> {
+    let mut t = some_right(run);
+    for _ in 0..run.below(3) {
+        if !overlaps(&Layer::new(&t)) {
+            t = some_right(run);
+        }
+    }
+    t
+}
+
+/// With short times and queues, and filters that values can meet; one table in six has many
+/// objects with filter 14, and of the receivers inside one in four has it.
+fn some_right(run: &mut Run) -> Vec<u8> {
     let (ipdus, objects) = match run.below(12) {
         0 => (run.pick(&[0, 0, 1]), run.pick(&[0, 1, 6])),
         1..=7 => (1 + run.below(4), 1 + run.below(10)),

@@ -98,10 +98,26 @@ pub enum Event {
     CountOfPeriodRefused,
     CountOfOneRefused,
     GreatestCountAccepted,
+    /// A kept value that changes a bit which stands from another reading of its I-PDU: by what each
+    /// was kept, whose number is lower, with the same places, and with one that goes down in the
+    /// other order; inside one group. A dropped value that would have changed one. A reading that
+    /// is covered in part.
+    StartCoversStart,
+    SendCoversStart,
+    SendCoversSend,
+    SendCoversInitialise,
+    InitialiseCoversSend,
+    LowerCoversHigher,
+    HigherCoversLower,
+    SameBitsCovered,
+    OtherOrderCovered,
+    GroupCoversGroup,
+    DroppedCoversNothing,
+    OlderInPart,
 }
 use Event::*;
 
-const EVENTS: [Event; 61] = [
+const EVENTS: [Event; 73] = [
     RequestBySend, PostponedBySend, RequestByTick, PostponedMadeByTick, DelayRunOut, DeadlineRunOut,
     FiredOpenPeriodic, FiredOpenMixed, FiredWanted, ReceiveTimerRunOut, StopPeriodicWanted,
     StartRunning, StartOpen, ShortAreaSend, ShortAreaTick, ValueLost,
@@ -116,6 +132,9 @@ const EVENTS: [Event; 61] = [
     SendCountReturns, IndicationCountReturns, InternalCountReturns, LostCountGoesOn,
     DroppedCountGoesOn, InitialiseBetweenSends, InitialiseBetweenArrivals, FilteredPast256,
     NotAsWrapped, CountOfPeriodRefused, CountOfOneRefused, GreatestCountAccepted,
+    StartCoversStart, SendCoversStart, SendCoversSend, SendCoversInitialise, InitialiseCoversSend,
+    LowerCoversHigher, HigherCoversLower, SameBitsCovered, OtherOrderCovered, GroupCoversGroup,
+    DroppedCoversNothing, OlderInPart,
 ];
 
 pub struct Met {

@@ -7,4 +7,3 @@ pub mod Xor
 pub mod RoundTrip
 pub mod Words
 pub mod Copies
-pub mod Masks

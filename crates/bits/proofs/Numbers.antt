@@ -2,10 +2,11 @@
 -- Assumes nothing.
 use mathlib.Core.Logic.{_⊎_, inl, inr, ⊎-elim}
 use mathlib.Core.Path.{_≡_, refl, sym, ap, _∙_}
-use Prim.Native.Nat.{ℕ, zero, suc, _+_, _-_, _*_, _/_, _%_, _^_, _≤_, _<_}
+use Prim.Native.Nat.{ℕ, zero, suc, _+_, _-_, _*_, _/_, _%_, _^_, _≤_, _<_, max}
 use native.Mathlib.Nat.{mul-one, pow-succ', div-div-eq-div-mul, add-mul-div-left, add-mul-mod-self-left, mul-assoc, mod-add-div, mod-eq-of-lt}
 use native.Mathlib.Nat.{div-eq-of-lt, zero-add, le-of-suc-le-suc, not-suc-le-zero, zero-lt-suc, mul-comm, zero-div}
 use native.Mathlib.Omega.{arith}
+use lib.Bits.{bitOr, or-shr, or-step}
 use lib.Pow.{pow-pos, shr-shr}
 use lib.Arith.{mod-mul}
 use Rattle.memory.proofs.Tests.{lt-or-le}
@@ -66,6 +67,10 @@ bit-added k w i low e =
 
 pub bit-mod : (n k i : ℕ) → i < k → bit (n % 2 ^ k) i ≡ bit n i
 bit-mod n k i h = sym (bit-low k (n % 2 ^ k) (n / 2 ^ k) i h) ∙ ap (λ (m : ℕ). bit m i) (mod-add-div n (2 ^ k))
+
+pub or-bit : (a b i : ℕ) → bit (bitOr a b) i ≡ max (bit a i) (bit b i)
+unfolding bit
+or-bit a b i = rw or-shr (omega (arith, or-step (a / 2 ^ i) (b / 2 ^ i)))
 
 pub number-ext : (k : ℕ) (b c : ℕ → ℕ) → ((i : ℕ) → i < k → b i ≡ c i) → number k b ≡ number k c
 unfolding number

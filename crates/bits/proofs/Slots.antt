@@ -52,7 +52,7 @@ reverse-bytes f bs i =
     omega (arith, List·getD-eq-default (reverse f) 0 past))
     (lt-or-le i (length f))
 
-pub turned-bytes : (w : ℕ) → Bytes (reverse (bytesOf 8 w))
+turned-bytes : (w : ℕ) → Bytes (reverse (bytesOf 8 w))
 turned-bytes w = reverse-bytes (bytesOf 8 w) (rw bytesOf-frame (frame-bytes 8 (bit w) (bit-lt w)))
 
 pub turned-bit : (o : Order) (w p : ℕ) → p < 64 → bit (turned o w) p ≡ bit w (position o p)

@@ -28,10 +28,6 @@ bitField w at size = w / 2 ^ at % 2 ^ size
 unfoldable pub withBitField : ℕ → ℕ → ℕ → ℕ → ℕ
 withBitField w at size x = w - bitField w at size * 2 ^ at + x % 2 ^ size * 2 ^ at
 
--- the word of a slot in which just the bits of a message are 1
-unfoldable pub mask : Order → ℕ → ℕ → ℕ
-mask o at size = turned o ((2 ^ size - 1) * 2 ^ at)
-
 -- what a caller of `pack_slot` and `unpack_slot` has checked: the run of positions lies in the slot
 pub record InSlot (at size : ℕ) : Type 0 where
   pub some : 0 < size

@@ -14,7 +14,7 @@ ghost use lib.ListN.{length};
 ghost use Rattle.memory.specs.Bytes.{part, replaced};
 ghost use Rattle.bits.specs.Bits.{room, packed, unpacked};
 ghost use Rattle.bits.specs.Frames.{isPlace, packing, frameAfter, unpacking};
-ghost use Rattle.bits.specs.Slots.{InSlot, position, mask};
+ghost use Rattle.bits.specs.Slots.{InSlot, position};
 
 // The byte order of a message in its I-PDU.
 pub enum Order {
@@ -115,13 +115,4 @@ pub fn unpack_slot(m: &[u8], base: usize, order: Order, at: u32, size: BitSize) 
 {
     let bits = size.0;
     word::field(word::turned(order, memory::read64(m, base)), at, bits)
-}
-
-// The word of a slot in which just the bits of a message are 1: two messages of an I-PDU share a bit where their masks do.
-pub fn mask(order: Order, at: u32, size: BitSize) -> u64
-    requires { ⌜ InSlot at (size .0) ⌝ }
-    ensures { λ r. ⌜ r ≡ mask order at (size .0) ⌝ }
-{
-    let bits = size.0;
-    word::turned(order, word::ones(at, bits))
 }

@@ -1,7 +1,7 @@
 // A slot's 64-bit word, and fields of bits in it.
 use super::Order;
 ghost use mathlib.Core.Path.{_≡_};
-ghost use Prim.Native.Nat.{_+_, _-_, _*_, _≤_, _<_, _^_};
+ghost use Prim.Native.Nat.{_+_, _≤_, _<_, _^_};
 ghost use Rattle.bits.specs.Slots.{bytesReversed, turned, withBitField, bitField};
 
 // The word with its bytes in the other order.
@@ -48,14 +48,6 @@ pub(crate) fn field(word: u64, at: u32, bits: u32) -> u32
     ensures { λ r. ⌜ r ≡ bitField word at bits ⌝ }
 {
     (word / power_of_two(at) % power_of_two(bits)) as u32
-}
-
-// `bits` ones, from bit `at` on.
-pub(crate) fn ones(at: u32, bits: u32) -> u64
-    requires { ⌜ (at + bits ≤ 64) × (at < 64) × (bits ≤ 32) ⌝ }
-    ensures { λ r. ⌜ r ≡ (2 ^ bits - 1) * 2 ^ at ⌝ }
-{
-    (power_of_two(bits) - 1) * power_of_two(at)
 }
 
 // The word with the low `bits` bits of `x` from bit `at` on: the bits of the field that differ are inverted.

@@ -32,4 +32,4 @@ pub tables-hold : AllHold tableRules
 unfolding definitions
 tables-hold =
     refl & refl & refl & refl & refl & refl & refl & refl & refl & refl & refl & refl & refl & refl & refl & refl & refl & refl & refl & refl
-    & refl & refl & refl & refl & refl & refl & tt
+    & refl & refl & tt

@@ -6,7 +6,7 @@ use Rattle.bits.specs.Slots.{position}
 use Rattle.filter.specs.Filters.{passes, greatestCount, nextCount, filterOf, filterRight}
 use Rattle.table.specs.Records.{counts, ipduRecord, objectRecord}
 use Rattle.table.specs.Rules.{offsetsRight, headerRight, ipduRight, references, objectRight}
-use Rattle.table.specs.Check.{shareBit, overlapsLower, check}
+use Rattle.table.specs.Check.{check}
 use Rattle.config.specs.Decode.{ipduOf, objectOf}
 use Rattle.state.specs.Layout.{runningAt, withRunning, ipduState, withIpduState, objectState, withObjectState}
 use Rattle.state.specs.Ranges.{ipduInRange, objectInRange, inRange}
@@ -27,7 +27,7 @@ unfolding value bytesOf part numberAt replaced bit frameBit place room number fr
 bitDefinitions = tt
 
 unfoldable pub checkDefinitions : Unit {0}
-unfolding passes greatestCount nextCount filterOf filterRight counts ipduRecord objectRecord offsetsRight headerRight ipduRight references objectRight shareBit overlapsLower check ipduOf objectOf
+unfolding passes greatestCount nextCount filterOf filterRight counts ipduRecord objectRecord offsetsRight headerRight ipduRight references objectRight check ipduOf objectOf
 checkDefinitions = tt
 
 unfoldable pub stateDefinitions : Unit {0}

@@ -1,4 +1,4 @@
--- Document 01, "The table": each rule of the check with records on both sides of its boundary, and which record is named.
+-- Document 01, "The table", with W-205: each rule of the check with records on both sides of its boundary, and which record is named.
 -- Worked out from the document. Assumes nothing.
 use mathlib.Core.List.{List, [], _∷_, _++_}
 use Prim.Native.Nat.{ℕ, _+_}
@@ -204,18 +204,14 @@ tableRules =
     -- an I-PDU, a sender, neither, but not both
     ∷ checks (tableOf bothIpdus (sendObject 0 0 0 ∷ objectBytes 2 1 255 0 32 0 0 0 0 0 0 0 ∷ [])) (accepted 2 2)
     ∷ checks (tableOf bothIpdus (sendObject 0 0 0 ∷ objectBytes 2 1 0 0 32 0 0 0 0 0 0 0 ∷ [])) (objectNamed 1)
-    -- of two send objects that overlap the higher is named
-    ∷ objectsGive (little 0 8 ∷ little 8 8 ∷ []) (accepted 1 2)
-    ∷ objectsGive (little 0 8 ∷ little 7 8 ∷ []) (objectNamed 1)
-    ∷ objectsGive (little 7 8 ∷ little 0 8 ∷ []) (objectNamed 1)
-    ∷ objectsGive (little 0 8 ∷ little 16 8 ∷ little 7 1 ∷ []) (objectNamed 2)
-    -- the big one has bits 8 to 13 and 18 to 23
-    ∷ objectsGive (big18 ∷ little 0 8 ∷ little 14 4 ∷ little 24 8 ∷ []) (accepted 1 4)
-    ∷ objectsGive (big18 ∷ little 0 9 ∷ []) (objectNamed 1)
-    ∷ objectsGive (big18 ∷ little 13 1 ∷ []) (objectNamed 1)
-    ∷ objectsGive (little 14 5 ∷ big18 ∷ []) (objectNamed 1)
-    -- the same bits of two I-PDUs, and objects without I-PDU, share none
-    ∷ checks (tableOf (directIpdu ∷ directIpdu ∷ []) (sentByte 0 0 0 0 0 ∷ sentByte 1 0 0 0 0 ∷ [])) (accepted 2 2)
+    -- send objects may share bits (W-205): some, the same twice, of either order
+    ∷ objectsGive (little 0 8 ∷ little 7 8 ∷ []) (accepted 1 2)
+    ∷ objectsGive (little 7 8 ∷ little 7 8 ∷ []) (accepted 1 2)
+    ∷ objectsGive (big18 ∷ little 13 1 ∷ little 0 32 ∷ []) (accepted 1 3)
+    -- one that shares a bit and is wrong otherwise is named: past the I-PDU's end, by its filter
+    ∷ objectsGive (little 0 8 ∷ little 7 26 ∷ little 0 8 ∷ []) (objectNamed 1)
+    ∷ objectsGive (little 0 8 ∷ little 4 8 ∷ sentByte 0 4 0 15 0 ∷ []) (objectNamed 2)
+    -- objects without I-PDU
     ∷ objectsGive (objectBytes 1 255 255 0 32 0 0 0 0 0 0 0 ∷ objectBytes 1 255 255 0 32 0 0 0 0 0 0 0 ∷ []) (accepted 1 2)
     -- receive objects may share bits
     ∷ checks (tableOf (receiveIpdu 0 0 ∷ []) (receivedByte 0 0 0 0 0 ∷ receivedByte 0 4 2 0 0 ∷ [])) (accepted 1 2)
@@ -226,6 +222,6 @@ tableRules =
     ∷ checks (withByte 15 1 (pair (sendIpdu 0 0 0 0 0) kind3)) WrongHeader
     ∷ checks (tableOf (directIpdu ∷ sendIpdu 0 0 0 0 0 ∷ sendIpdu 0 0 0 0 0 ∷ []) (kind3 ∷ [])) (ipduNamed 1)
     ∷ objectsGive (little 0 8 ∷ kind3 ∷ kind3 ∷ []) (objectNamed 1)
-    ∷ objectsGive (little 0 8 ∷ little 7 8 ∷ kind3 ∷ []) (objectNamed 1)
+    ∷ objectsGive (little 0 8 ∷ little 7 8 ∷ kind3 ∷ []) (objectNamed 2)
     ∷ objectsGive (little 0 8 ∷ kind3 ∷ little 7 8 ∷ []) (objectNamed 1)
     ∷ []

@@ -21,7 +21,7 @@ use Rattle.table.specs.declared.ObjectRecord.{ObjectRecord}
 use Rattle.table.specs.declared.Verdict.the-variants.{Accepted, WrongHeader, WrongIpdu, WrongObject}
 use Rattle.table.specs.Records.{mostQueued, sending, counts, ipduRecord, objectRecord}
 use Rattle.table.specs.Rules.{headerRight, orderOf, references, withoutIpdu, withinIpdu, recordFilter}
-use Rattle.table.specs.Check.{wrongIpdu, wrongAlone, overlapsLower, depths, pastDepth, wrongObject, checkObjects, checkIpdus, check, Right}
+use Rattle.table.specs.Check.{wrongIpdu, wrongAlone, depths, pastDepth, wrongObject, checkObjects, checkIpdus, check, Right}
 use Rattle.table.proofs.Facts.{ObjectFacts, object-facts, ByteFacts, byte-facts, or-right, InIpdu, in-ipdu, picked}
 use Rattle.table.proofs.Verdicts.{header-shape}
 
@@ -38,7 +38,7 @@ right-accepted t c r =
     fine i h =
         let low : pastDepth t c i ≡ false =
         le-ltb mostQueued (depths t c (suc i)) (omega (arith, r .depth, sum-more (c .objects) (suc i) (λ j. objectRecord t (c .ipdus) j .depth) h)) in
-        rw (r .objects i h, r .apart i h) low
+        rw (r .objects i h) low
 
 -- ---- nothing wrong where accepted
 
@@ -51,19 +51,14 @@ module _ (t : List ℕ) where
         counted = e;
         shape = rw e (header-shape t h);
         ipdus = λ k b. not-false _ (ipdus k b);
-        objects = λ i b. not-false _ (parts i b .0);
-        apart = λ i b. parts i b .1;
+        objects = λ i b. not-false _ (or-split (wrongAlone t c i) (pastDepth t c i) (objects i b) .0);
         depth = low (c .objects) (omega arith);
       }
     where
-      parts : (i : ℕ) → i < c .objects → (wrongAlone t c i ≡ false) × (overlapsLower t (c .ipdus) i ≡ false)
-      parts i b = or-split (wrongAlone t c i) (overlapsLower t (c .ipdus) i) (or-split (wrongAlone t c i || overlapsLower t (c .ipdus) i) (pastDepth t c i) (objects i b) .0)
-
       low : (k : ℕ) → k ≤ c .objects → depths t c k ≤ mostQueued
       low zero b = zero-le
       low (suc i) b =
-          ltb-false mostQueued (depths t c (suc i))
-          (or-split (wrongAlone t c i || overlapsLower t (c .ipdus) i) (pastDepth t c i) (objects i b) .1)
+          ltb-false mostQueued (depths t c (suc i)) (or-split (wrongAlone t c i) (pastDepth t c i) (objects i b) .1)
 
   pub accepted-right : (c : Counts) → check t ≡ Accepted c → Right t c
   unfolding check

@@ -1,12 +1,12 @@
 -- What a right record says, field by field.
 -- Assumes nothing.
-use mathlib.Core.Bool.{Bool, true, false, not, _&&_, _||_}
+use mathlib.Core.Bool.{Bool, true, false, _&&_, _||_}
 use mathlib.Core.Logic.{⊎-elim}
 use mathlib.Core.List.{List, [], _∷_}
 use mathlib.Core.Path.{_≡_, refl}
 use Prim.Native.Nat.{ℕ, _≤_, _<_}
 use native.Mathlib.Omega.{arith}
-use borrow.Author.Tests.{leb-true, ltb-true, eqb-true, not-true, not-false}
+use borrow.Author.Tests.{leb-true, ltb-true, eqb-true}
 use lib.Dec.{leb, ltb, eqb}
 use lib.ListN.{length}
 use Rattle.memory.specs.Search.{pick}
@@ -19,10 +19,8 @@ use Rattle.table.specs.declared.Counts.{Counts}
 use Rattle.table.specs.declared.IpduRecord.{IpduRecord}
 use Rattle.table.specs.declared.ObjectRecord.{ObjectRecord}
 use Rattle.table.specs.declared.References.{References}
-use Rattle.table.specs.Records.{receiving, sending, ipduRecord, objectRecord}
+use Rattle.table.specs.Records.{receiving, sending, ipduRecord}
 use Rattle.table.specs.Rules.{ipduRight, sendIpdu, receiveIpdu, orderOf, references, sendObject, receiveObject, withoutIpdu, withinIpdu, senderRight, bytesRight, objectRight}
-use Rattle.table.specs.Check.{isSent}
-use Rattle.table.specs.Masks.{RightAlone, Placed}
 
 -- ---- object records
 
@@ -75,7 +73,7 @@ ipdu-facts r e =
     ∷ (eqb (r .direction) sending && sendIpdu r || eqb (r .direction) receiving && receiveIpdu r) ∷ []) e in
     search leb-true
 
--- ---- where a send object's bits lie
+-- ---- where an object's bits lie
 
 pub or-right : (a b : Bool) → a ≡ false → (a || b) ≡ true → b ≡ true
 or-right true b z e = let w : true ≡ false = z in cc
@@ -126,16 +124,3 @@ in-ipdu t c ipdus r facts within =
       start = along .begins;
       slot = record { some = bytes .least; most = bytes .most; inside = along .ends };
     }
-
--- a send object with an I-PDU
-pub placed : (t : List ℕ) (c : Counts) (end : ℕ) → RightAlone t c end → (i : ℕ) → i < end
-    → isSent (objectRecord t (c .ipdus) i) ≡ true → Placed (objectRecord t (c .ipdus) i)
-placed t c end right i h sent =
-    let r = objectRecord t (c .ipdus) i in
-    let facts = object-facts r (references t c r) (not-false _ (right .alone i h)) in
-    let some : eqb (r .ipdu) 255 ≡ false = not-true _ (and-split (eqb (r .kind) sending) (not (eqb (r .ipdu) 255)) sent .1) in
-    let away : withoutIpdu r ≡ false = rw some in
-    let here =
-    in-ipdu t c (λ k b. not-false _ (right .ipdus k b)) r facts
-    (or-right (withoutIpdu r) (withinIpdu r (references t c r)) away (facts .places)) in
-    record { ipdu = omega (arith, here .number, right .shape .ipdus); start = here .start; slot = here .slot }

@@ -1,9 +1,7 @@
 pub mod Facts
-pub mod Overlaps
 pub mod Turns
 pub mod Tests
 pub mod Verdicts
 pub mod Walk
 pub mod Accepted
-pub mod Pairs
 pub mod Senders

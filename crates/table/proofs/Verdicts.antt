@@ -1,6 +1,6 @@
 -- From a right header to the table's shape, and from what the searches found to what the check answers.
 -- Assumes nothing.
-use mathlib.Core.Bool.{true, false}
+use mathlib.Core.Bool.{true}
 use mathlib.Core.List.{List, [], _∷_}
 use mathlib.Core.Logic.{⊎-elim}
 use mathlib.Core.Path.{_≡_}
@@ -11,7 +11,6 @@ use lib.Dec.{leb, ltb, eqb}
 use lib.ListN.{length}
 use Rattle.memory.specs.Bytes.{numberAt}
 use Rattle.memory.specs.Search.{least}
-use Rattle.memory.proofs.Search.{least-before}
 use Rattle.memory.proofs.Tests.{and-split, each-true, true-or-false}
 use Rattle.table.specs.declared.Counts.{Counts}
 use Rattle.table.specs.declared.Verdict.the-variants.{Accepted, WrongIpdu, WrongObject}
@@ -44,9 +43,6 @@ module _ (t : List ℕ) (c : Counts) (h : headerRight t ≡ true) (here : c ≡ 
   pub names-ipdu : k < c .ipdus → WrongIpdu (record { 0 = k }) ≡ check t
   unfolding check
   names-ipdu wrong = rw (h, ← here, ← first, lt-ltb k (c .ipdus) wrong)
-
-  pub ipdus-right : c .ipdus ≤ k → (j : ℕ) → j < c .ipdus → wrongIpdu t j ≡ false
-  ipdus-right none j below = least-before (c .ipdus) (wrongIpdu t) j (omega arith)
 
   pub names-object : c .ipdus ≤ k → (i : ℕ) → i ≡ least (c .objects) (wrongObject t c) → i < c .objects
       → WrongObject (record { 0 = i }) ≡ check t

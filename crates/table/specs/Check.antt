@@ -1,19 +1,17 @@
--- Document 01, "The table": what the check names. The first wrong record, in the order header, I-PDUs, objects.
+-- Document 01, "The table", with W-205: what the check names. The first wrong record, in the order header, I-PDUs, objects.
 -- Assumes nothing.
-use mathlib.Core.Bool.{Bool, true, false, not, _&&_, _||_}
+use mathlib.Core.Bool.{Bool, true, not, _||_}
 use mathlib.Core.List.{List}
 use mathlib.Core.Path.{_≡_}
 use Prim.Native.Nat.{ℕ, suc, _+_, _≤_, _<_}
-use lib.Dec.{ltb, eqb}
+use lib.Dec.{ltb}
 use lib.ListN.{length}
-use Rattle.memory.specs.Search.{pick, anyBelow, least, sumBelow}
-use Rattle.bits.specs.Bits.{owns}
+use Rattle.memory.specs.Search.{pick, least, sumBelow}
 use Rattle.table.specs.declared.Counts.{Counts}
-use Rattle.table.specs.declared.ObjectRecord.{ObjectRecord}
 use Rattle.table.specs.declared.Verdict.{Verdict}
 use Rattle.table.specs.declared.Verdict.the-variants.{Accepted, WrongHeader, WrongIpdu, WrongObject}
-use Rattle.table.specs.Records.{sending, mostIpdus, mostObjects, mostQueued, absent, tableLength, counts, ipduRecord, objectRecord}
-use Rattle.table.specs.Rules.{headerRight, ipduRight, references, orderOf, objectRight}
+use Rattle.table.specs.Records.{mostIpdus, mostObjects, mostQueued, tableLength, counts, ipduRecord, objectRecord}
+use Rattle.table.specs.Rules.{headerRight, ipduRight, references, objectRight}
 
 -- a table whose header is right has this shape
 pub record Shape (t : List ℕ) (c : Counts) : Type 0 where
@@ -31,22 +29,6 @@ abbrev pub wrongAlone : List ℕ → Counts → ℕ → Bool
 wrongAlone t c i =
     not (objectRight (objectRecord t (c .ipdus) i) (references t c (objectRecord t (c .ipdus) i)))
 
--- the object owns bit p of its I-PDU
-abbrev pub ownsBit : ObjectRecord → ℕ → Bool
-ownsBit r p = owns (orderOf (r .order)) (r .start) (r .size) p
-
--- a send object with an I-PDU
-abbrev pub isSent : ObjectRecord → Bool
-isSent r = eqb (r .kind) sending && not (eqb (r .ipdu) absent)
-
--- two send objects share a bit of an I-PDU
-unfoldable pub shareBit : ObjectRecord → ObjectRecord → Bool
-shareBit r s = isSent r && isSent s && eqb (r .ipdu) (s .ipdu) && anyBelow 64 (λ p. ownsBit r p && ownsBit s p)
-
--- an object overlaps a lower one, in a table of so many I-PDUs
-unfoldable pub overlapsLower : List ℕ → ℕ → ℕ → Bool
-overlapsLower t ipdus i = anyBelow i (λ j. shareBit (objectRecord t ipdus j) (objectRecord t ipdus i))
-
 -- the queue depths of the first k objects
 abbrev pub depths : List ℕ → Counts → ℕ → ℕ
 depths t c k = sumBelow k (λ j. objectRecord t (c .ipdus) j .depth)
@@ -55,9 +37,9 @@ depths t c k = sumBelow k (λ j. objectRecord t (c .ipdus) j .depth)
 abbrev pub pastDepth : List ℕ → Counts → ℕ → Bool
 pastDepth t c i = ltb mostQueued (depths t c (suc i))
 
--- what makes an object the one that is named: its record, a bit of a lower object, the sum of the depths
+-- what makes an object the one that is named: its record, or the sum of the depths. Readings may share bits (W-205)
 abbrev pub wrongObject : List ℕ → Counts → ℕ → Bool
-wrongObject t c i = wrongAlone t c i || overlapsLower t (c .ipdus) i || pastDepth t c i
+wrongObject t c i = wrongAlone t c i || pastDepth t c i
 
 -- ---- the first wrong record: the header, else the lowest I-PDU, else the lowest object
 
@@ -81,7 +63,6 @@ pub record Right (t : List ℕ) (c : Counts) : Type 0 where
   pub shape : Shape t c
   pub ipdus : (k : ℕ) → k < c .ipdus → ipduRight (ipduRecord t k) ≡ true
   pub objects : (i : ℕ) → i < c .objects → objectRight (objectRecord t (c .ipdus) i) (references t c (objectRecord t (c .ipdus) i)) ≡ true
-  pub apart : (i : ℕ) → i < c .objects → overlapsLower t (c .ipdus) i ≡ false
   pub depth : depths t c (c .objects) ≤ mostQueued
 
 -- ---- document 01's number for an answer, and what it returns: 5 with the place, 0 with 0

@@ -1,5 +1,4 @@
 // The table of I-PDUs and message objects: its records, and the check that every call makes (document 01, "The table").
-mod overlap;
 mod records;
 mod rules;
 mod search;

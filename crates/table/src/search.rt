@@ -6,15 +6,12 @@ use super::ObjectNumber;
 use super::ObjectRecord;
 use super::References;
 use super::Verdict;
-ghost use mathlib.Core.Bool.{false};
 ghost use mathlib.Core.Path.{_≡_};
-ghost use Prim.Native.Nat.{ℕ, _≤_, _<_};
 ghost use Rattle.memory.specs.Search.{pick, least};
 ghost use lib.Dec.{ltb};
 ghost use Rattle.table.specs.Records.{objectRecord};
 ghost use Rattle.table.specs.Rules.{references};
 ghost use Rattle.table.specs.Check.{Shape, wrongIpdu, wrongObject, check, numberOf, placeOf};
-ghost use Rattle.table.specs.Masks.{Ended};
 
 // Names the first wrong record of a slice of any length, or accepts it with its counts.
 pub fn check(t: &[u8]) -> Verdict
@@ -75,57 +72,27 @@ fn first_wrong_ipdu(t: &[u8], c: Counts) -> u32
     k
 }
 
-// The lowest object that is wrong, or the number of objects. The pairs are searched only where the walk met an overlap, to
-// name it.
+// The lowest object that is wrong, by itself or in the sum of the depths, or the number of objects.
 fn first_wrong_object(t: &[u8], c: Counts) -> u32
     requires { ⌜ Shape (now t) c ⌝ }
-    requires { ⌜ ((k : ℕ) → k < c .ipdus → wrongIpdu (now t) k ≡ false) ⌝ }
     ensures { λ r. ⌜ r ≡ least (c .objects) (wrongObject (now (t .entry)) c) ⌝ }
-{
-    let w = walk(t, c);
-    let end = w.end;
-    if w.free {
-        return end;
-    }
-    super::overlap::first_pair(t, c, end + 1)
-}
-
-// Where the walk over the objects ended, and whether the bits of the object there were free.
-struct WalkEnd {
-    end: u32,
-    free: bool,
-}
-
-// Walks over the objects up to the first that is wrong: by itself, in the depth sum, or in the bits that it claims of its
-// I-PDU's word.
-fn walk(t: &[u8], c: Counts) -> WalkEnd
-    requires { ⌜ Shape (now t) c ⌝ }
-    requires { ⌜ ((k : ℕ) → k < c .ipdus → wrongIpdu (now t) k ≡ false) ⌝ }
-    ensures { λ r. ⌜ Ended (now (t .entry)) c (r .end) (r .free) ⌝ }
 {
     let n = c.ipdus;
     let m = c.objects;
-    let mut used = [0u64; 32];
     let mut depth = 0;
     let mut i = 0;
     while i < m {
         let r = super::object_record(t, n, ObjectNumber(i));
         if !super::object_right(r, references(t, c, r)) {
-            return WalkEnd { end: i, free: true };
+            return i;
         }
         depth += r.depth;
         if MOST_QUEUED < depth {
-            return WalkEnd { end: i, free: true };
-        }
-        if !super::overlap::claim(&mut used, r) {
-            return WalkEnd {
-                end: i,
-                free: false,
-            };
+            return i;
         }
         i += 1;
     }
-    WalkEnd { end: i, free: true }
+    i
 }
 
 // What the record of an object refers to.

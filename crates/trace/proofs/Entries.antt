@@ -1,10 +1,10 @@
--- Demand 3's book has, from a start on, an entry of each send object and of no other: a bit that a send object owns is that of an
--- entry's value, and a bit that none owns is 0.
+-- Demand 3's book has, from a start on, an entry of each send object and of no other: a bit that send objects cover is that of the
+-- latest entry of them all, and a bit that none covers is 0.
 -- Assumes nothing.
 use mathlib.Core.Bool.{Bool, true, false, not, _&&_, _||_}
 use mathlib.Core.List.{List, [], _∷_}
 use mathlib.Core.Logic.{⊎-elim}
-use mathlib.Core.Path.{_≡_, refl, sym}
+use mathlib.Core.Path.{_≡_, refl, sym, ap}
 use Prim.Native.Nat.{ℕ, zero, suc, _≤_, _<_}
 use native.Mathlib.Nat.{not-suc-le-zero}
 use native.Mathlib.Omega.{arith}
@@ -18,7 +18,8 @@ use Rattle.table.specs.declared.Counts.{Counts}
 use Rattle.table.specs.Records.{sending, objectRecord}
 use Rattle.layer.specs.Step.{Call, Told, toldStart, toldStop, toldSend, toldInitialise, toldNothing, lentBytes, describe}
 use Rattle.state.specs.Layout.{areaSize}
-use Rattle.trace.specs.Book.{Entry, Book, enter, sends, openEntry, opened, keeps, accepts, entered, advance, bookAfter, ownsIpduBit, messageBit, bookBit}
+use Rattle.trace.specs.Actions.{Action, single, group, groupSends, acceptsGroup, advanceBy, bookAfterAll}
+use Rattle.trace.specs.Book.{Entry, Book, enter, sends, openEntry, opened, keeps, accepts, entered, advance, bookAfter, ownsIpduBit, bookBit, Latest}
 
 abbrev pub has : ℕ → List Entry → Bool
 has i [] = false
@@ -119,34 +120,49 @@ module _ (t : List ℕ) (c : Counts) where
   pub started-full : (calls : List Call) → Full (bookAfter t c (opened t c) calls .entries)
   started-full calls = after-full calls (opened t c) opened-full
 
-  -- ---- the bits of a frame, as document 01 says them
+  -- ---- lists with groups
 
-  pub record Owned (es : List Entry) (k p : ℕ) : Type 0 where
-    pub entry : Entry
-    pub owns : ownsIpduBit (objectRecord t (c .ipdus) (entry .object)) k p ≡ true
-    pub bit : bookBit t c es k p ≡ messageBit (objectRecord t (c .ipdus) (entry .object)) (entry .value) p
+  pub action-full : (b : Book) → FullBook b → (x : Action) → FullBook (advanceBy t c b x)
+  action-full b full (single call) = advance-full b full call
+  action-full b full (group g) =
+      picked FullBook (acceptsGroup b g) (bookAfter t c b (groupSends g)) b (λ e. after-full (groupSends g) b full) (λ e. full)
+
+  pub actions-full : (xs : List Action) (b : Book) → FullBook b → FullBook (bookAfterAll t c b xs)
+  actions-full [] b full = full
+  actions-full (x ∷ xs) b full = actions-full xs (advanceBy t c b x) (action-full b full x)
+
+  -- ---- the bits of a frame, as document 01 and W-205 say them
 
   module _ (k p : ℕ) where
-    owner : (i : ℕ) → ownsIpduBit (objectRecord t (c .ipdus) i) k p ≡ true → (es : List Entry) → has i es ≡ true → Owned es k p
-    owner i y [] h = absurd (true-not-false {b = true} refl (sym h))
-    owner i y (e ∷ es) h =
+    latest : (i : ℕ) → ownsIpduBit (objectRecord t (c .ipdus) i) k p ≡ true → (es : List Entry) → has i es ≡ true → Latest t c es k p
+    latest i y [] h = absurd (true-not-false {b = true} refl (sym h))
+    latest i y (e ∷ es) h =
         ⊎-elim
-        (λ (o : ownsIpduBit (objectRecord t (c .ipdus) (e .object)) k p ≡ true). record { entry = e; owns = o; bit = rw o })
+        (λ (o : ownsIpduBit (objectRecord t (c .ipdus) (e .object)) k p ≡ true).
+        record { entry = e; later = []; earlier = es; among = refl; covers = o; uncovered = tt; bit = rw o })
         (λ (n : ownsIpduBit (objectRecord t (c .ipdus) (e .object)) k p ≡ false).
         ⊎-elim
         (λ (s : eqb (e .object) i ≡ true). absurd (true-not-false y (rw (eqb-true (e .object) i s) at n)))
         (λ (d : eqb (e .object) i ≡ false).
-        let z = owner i y es (rw d at h) in
-        record { entry = z .entry; owns = z .owns; bit = rw n (z .bit) })
+        let z = latest i y es (rw d at h) in
+        record {
+          entry = z .entry;
+          later = e ∷ z .later;
+          earlier = z .earlier;
+          among = ap (λ (l : List Entry). e ∷ l) (z .among);
+          covers = z .covers;
+          uncovered = (n, z .uncovered);
+          bit = rw n (z .bit);
+        })
         (true-or-false (eqb (e .object) i)))
         (true-or-false (ownsIpduBit (objectRecord t (c .ipdus) (e .object)) k p))
 
-    -- a bit that a send object owns is that of an entry of an owner
-    pub owned : (es : List Entry) → Full es → (i : ℕ) → sends t c i ≡ true → ownsIpduBit (objectRecord t (c .ipdus) i) k p ≡ true → Owned es k p
-    owned es f i s y = owner i y es (f .each i s)
+    -- a bit that a send object covers is that of the latest entry of all objects that cover it
+    pub covered : (es : List Entry) → Full es → (i : ℕ) → sends t c i ≡ true → ownsIpduBit (objectRecord t (c .ipdus) i) k p ≡ true → Latest t c es k p
+    covered es f i s y = latest i y es (f .each i s)
 
     -- any other bit is 0
-    pub unowned : (es : List Entry) → AllSent es → ((i : ℕ) → sends t c i ≡ true → ownsIpduBit (objectRecord t (c .ipdus) i) k p ≡ false)
+    pub uncovered : (es : List Entry) → AllSent es → ((i : ℕ) → sends t c i ≡ true → ownsIpduBit (objectRecord t (c .ipdus) i) k p ≡ false)
         → bookBit t c es k p ≡ 0
-    unowned [] a none = refl
-    unowned (e ∷ es) a none = rw (none (e .object) (a .0)) (unowned es (a .1) none)
+    uncovered [] a none = refl
+    uncovered (e ∷ es) a none = rw (none (e .object) (a .0)) (uncovered es (a .1) none)

@@ -15,8 +15,7 @@ use Rattle.memory.specs.Bytes.{Bytes, part}
 use Rattle.memory.specs.Search.{pick}
 use Rattle.memory.proofs.Tests.{eq-or-ne, true-not-false}
 use Rattle.bits.specs.Bits.{bit}
-use Rattle.bits.proofs.Masks.{or-bit}
-use Rattle.bits.proofs.Numbers.{bit-lt, bit-of-zero}
+use Rattle.bits.proofs.Numbers.{bit-lt, bit-of-zero, or-bit}
 use Rattle.table.specs.declared.Counts.{Counts}
 use Rattle.table.specs.declared.Verdict.the-variants.{Accepted}
 use Rattle.table.specs.Records.{ipduRecord}

@@ -19,6 +19,7 @@ pub mod Demand3
 pub mod Pins
 pub mod GroupPins
 pub mod Entries
+pub mod Covered
 pub mod RoundTrip
 pub mod Receivers
 pub mod Arrivals

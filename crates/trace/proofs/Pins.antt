@@ -267,7 +267,7 @@ zeros-stopped = refl
 -- the first frame, read back
 pub first-reading : readingIn (objectRecord table (counts table .ipdus) 0) (claim.frame table 0 (step table (send 0 2748 here) (after (start ∷ []) m) .area)) ≡ 2748
 unfolding value bytesOf part numberAt passes filterOf counts objectRecord advance
-first-reading = frames-read table bytes (singles xs) typed-xs m started-m .1 .0 0 0 requested refl refl
+first-reading = frames-read table bytes (singles xs) typed-xs m started-m .1 .0 0 requested .0 0 refl
 
 -- another board, with a like receive object
 abbrev other : List ℕ
@@ -294,5 +294,5 @@ pub received : step other (receive 0)
     ≡ Done 2748
 unfolding value bytesOf part numberAt passes filterOf counts ipduRecord objectRecord advance
 received =
-    reading-round-trip table bytes [] m sender (send 0 2748 here) (omega arith, none) 0 0 requested refl refl other other-bytes [] n receiver 0
+    reading-round-trip table bytes [] m sender (send 0 2748 here) (omega arith, none) 0 0 requested refl refl (λ n low. refl) other other-bytes [] n receiver 0
     (omega arith) (record { order = refl; start = refl; size = refl; length = refl }) 2748 refl takes .unqueued refl

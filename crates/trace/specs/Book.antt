@@ -1,7 +1,8 @@
 -- Document 01, "Demand 3's book": what it holds and how a call changes it. Nothing but the table and what a call is given goes into it;
 -- a request area goes in as its length, working memory not at all. Assumes nothing.
 use mathlib.Core.Bool.{Bool, true, false, not, _&&_}
-use mathlib.Core.List.{List, [], _∷_}
+use mathlib.Core.List.{List, [], _∷_, _++_}
+use mathlib.Core.Path.{_≡_}
 use Prim.Native.Nat.{ℕ}
 use lib.Dec.{leb, ltb, eqb}
 use lib.ListN.{length}
@@ -105,7 +106,7 @@ bookAfter t c b (call ∷ calls) = bookAfter t c (advance t c b call) calls
 
 -- ---- frames
 
--- the object owns bit p of I-PDU k: its message bits go there
+-- the object covers bit p of I-PDU k: one of its message bits goes there
 abbrev pub ownsIpduBit : ObjectRecord → ℕ → ℕ → Bool
 ownsIpduBit r k p = eqb (r .ipdu) k && owns (orderOf (r .order)) (r .start) (r .size) p
 
@@ -113,8 +114,23 @@ ownsIpduBit r k p = eqb (r .ipdu) k && owns (orderOf (r .order)) (r .start) (r .
 abbrev pub messageBit : ObjectRecord → ℕ → ℕ → ℕ
 messageBit r v p = bit v (least (r .size) (λ n. eqb (place (orderOf (r .order)) (r .start) n) p))
 
--- bit p of I-PDU k, from the latest entry whose object owns it; 0 where none does
+-- bit p of I-PDU k, from the latest entry whose object covers it; 0 where none does
 abbrev pub bookBit : List ℕ → Counts → List Entry → ℕ → ℕ → ℕ
 bookBit t c [] k p = 0
 bookBit t c (e ∷ es) k p =
     pick (ownsIpduBit (objectRecord t (c .ipdus) (e .object)) k p) (messageBit (objectRecord t (c .ipdus) (e .object)) (e .value) p) (bookBit t c es k p)
+
+-- none of these entries covers the bit
+abbrev pub NoneCovers : List ℕ → Counts → ℕ → ℕ → List Entry → Type 0
+NoneCovers t c k p [] = Unit {0}
+NoneCovers t c k p (e ∷ es) = (ownsIpduBit (objectRecord t (c .ipdus) (e .object)) k p ≡ false) × NoneCovers t c k p es
+
+-- the bit is that of one entry's value: its object covers the bit, and no later entry does
+pub record Latest (t : List ℕ) (c : Counts) (es : List Entry) (k p : ℕ) : Type 0 where
+  pub entry : Entry
+  pub later : List Entry
+  pub earlier : List Entry
+  pub among : es ≡ later ++ (entry ∷ earlier)
+  pub covers : ownsIpduBit (objectRecord t (c .ipdus) (entry .object)) k p ≡ true
+  pub uncovered : NoneCovers t c k p later
+  pub bit : bookBit t c es k p ≡ messageBit (objectRecord t (c .ipdus) (entry .object)) (entry .value) p

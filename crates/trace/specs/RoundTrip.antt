@@ -1,15 +1,19 @@
--- Demand 2 over lists of calls: what a frame that was handed over unpacks to, and what a receiver then gives.
+-- Demand 2 over lists of calls, with W-205: what the bytes of an I-PDU and the frames that are handed over unpack to, and what a
+-- receiver then gives.
 -- Assumes nothing.
-use mathlib.Core.Bool.{true, false}
+use mathlib.Core.Bool.{Bool, true, false, not, _&&_, _||_}
 use mathlib.Core.List.{List, [], _∷_, _++_}
 use mathlib.Core.Path.{_≡_}
 use Prim.Native.Nat.{ℕ, _%_, _^_, _<_}
-use Rattle.bits.specs.Bits.{unpacked}
+use lib.Dec.{eqb}
+use Rattle.memory.specs.Bytes.{part}
+use Rattle.memory.specs.Search.{pick}
+use Rattle.bits.specs.Bits.{bit, place, unpacked}
 use Rattle.table.specs.declared.Counts.{Counts}
 use Rattle.table.specs.declared.ObjectRecord.{ObjectRecord}
 use Rattle.table.specs.Records.{receiving, counts, ipduRecord, objectRecord}
 use Rattle.table.specs.Rules.{orderOf}
-use Rattle.state.specs.Layout.{objectState}
+use Rattle.state.specs.Layout.{slotAt, objectState}
 use Rattle.message.specs.Objects.{object, passesFilter}
 use Rattle.queue.specs.Queues.{waiting}
 use Rattle.calls.specs.declared.Answer.the-variants.{Done}
@@ -17,21 +21,61 @@ use Rattle.calls.specs.Answers.{Outcome, valueOf}
 use Rattle.layer.specs.Admission.{workingMemory}
 use Rattle.layer.specs.Step.{Call, start, receive, step, run, memoryAfter}
 use Rattle.group.specs.Groups.{groupStep}
-use Rattle.trace.specs.Book.{Book, sends, lastOf, opened, advance, bookAfter}
-use Rattle.trace.specs.Actions.{Action, single, group, leaves, groupSends, acceptsGroup, advanceBy, expanded, memoryAfterAll}
-use Rattle.trace.specs.Demand3.{AllTyped, done, wordOf, frame, names, HandedOver}
+use Rattle.trace.specs.Book.{Entry, Book, sends, lastOf, opened, advance, bookAfter, ownsIpduBit}
+use Rattle.trace.specs.Actions.{Action, single, group, leaves, groupSends, acceptsGroup, advanceBy, expanded, memoryAfterAll, bookAfterAll}
+use Rattle.trace.specs.Demand3.{AllTyped, ActionsTyped, done, wordOf, frame, names, HandedOver}
 
--- ---- frames
+-- ---- readings in the bytes of an I-PDU
 
--- a reading in a frame of its I-PDU
 abbrev pub readingIn : ObjectRecord → List ℕ → ℕ
 readingIn r f = unpacked (orderOf (r .order)) (r .start) (r .size) f
 
--- in each frame that a call hands over each reading unpacks to the low bits of its latest kept value, that call's own included
+-- object i's is the latest of the values kept in I-PDU k
+abbrev pub storedLast : List ℕ → Counts → ℕ → ℕ → List Entry → Bool
+storedLast t c k i [] = false
+storedLast t c k i (e ∷ es) = pick (eqb (objectRecord t (c .ipdus) (e .object) .ipdu) k) (eqb (e .object) i) (storedLast t c k i es)
+
+-- a value kept since object i's last one covers bit p of I-PDU k. One that was dropped has no entry, and covers nothing
+abbrev pub coveredSince : List ℕ → Counts → ℕ → ℕ → ℕ → List Entry → Bool
+coveredSince t c i k p [] = false
+coveredSince t c i k p (e ∷ es) = not (eqb (e .object) i) && (ownsIpduBit (objectRecord t (c .ipdus) (e .object)) k p || coveredSince t c i k p es)
+
+-- the bit of the I-PDU that message bit n of a reading goes to
+abbrev pub messagePlace : ObjectRecord → ℕ → ℕ
+messagePlace r n = place (orderOf (r .order)) (r .start) n
+
+-- the reading stored last in I-PDU k, unpacked from the bytes f, gives the low bits of its value
+abbrev pub LastReads : List ℕ → Counts → List Entry → ℕ → List ℕ → Type 0
+LastReads t c es k f =
+    (i : ℕ) → storedLast t c k i es ≡ true → readingIn (objectRecord t (c .ipdus) i) f ≡ lastOf i es % 2 ^ (objectRecord t (c .ipdus) i .size)
+
+-- any reading of it gives its own bit at each place that no value kept since covers
+abbrev pub OlderReads : List ℕ → Counts → List Entry → ℕ → List ℕ → Type 0
+OlderReads t c es k f =
+    (i n : ℕ) → sends t c i ≡ true → objectRecord t (c .ipdus) i .ipdu ≡ k → n < objectRecord t (c .ipdus) i .size
+    → coveredSince t c i k (messagePlace (objectRecord t (c .ipdus) i) n) es ≡ false → bit (readingIn (objectRecord t (c .ipdus) i) f) n ≡ bit (lastOf i es) n
+
+-- ---- the round trip: of the bytes of each I-PDU in working memory, after every list that begins with an accepted start
+
+abbrev pub ipduBytes : List ℕ → ℕ → List ℕ → List ℕ
+ipduBytes t k m = part (slotAt k) (ipduRecord t k .length) (workingMemory m)
+
+abbrev pub StoredLast : List ℕ → Type 0
+StoredLast t =
+    (xs : List Action) → ActionsTyped xs → (m : List ℕ) → done (step t start m) ≡ true → (k : ℕ) → k < counts t .ipdus
+    → LastReads t (counts t) (bookAfterAll t (counts t) (opened t (counts t)) xs .entries) k (ipduBytes t k (memoryAfterAll t (single start ∷ xs) m))
+
+abbrev pub StoredEarlier : List ℕ → Type 0
+StoredEarlier t =
+    (xs : List Action) → ActionsTyped xs → (m : List ℕ) → done (step t start m) ≡ true → (k : ℕ) → k < counts t .ipdus
+    → OlderReads t (counts t) (bookAfterAll t (counts t) (opened t (counts t)) xs .entries) k (ipduBytes t k (memoryAfterAll t (single start ∷ xs) m))
+
+-- ---- and of each frame that a call hands over, with that call's own value entered
+
 abbrev pub FramesRead : List ℕ → Counts → Book → Call → Outcome → Type 0
 FramesRead t c b call o =
-    (k i : ℕ) → names (wordOf call (o .answer)) k → sends t c i ≡ true → objectRecord t (c .ipdus) i .ipdu ≡ k
-    → readingIn (objectRecord t (c .ipdus) i) (frame t k (o .area)) ≡ lastOf i (advance t c b call .entries) % 2 ^ (objectRecord t (c .ipdus) i .size)
+    (k : ℕ) → names (wordOf call (o .answer)) k
+    → LastReads t c (advance t c b call .entries) k (frame t k (o .area)) × OlderReads t c (advance t c b call .entries) k (frame t k (o .area))
 
 abbrev pub AllRead : List ℕ → Counts → Book → List Call → List ℕ → Type 0
 AllRead t c b [] m = Unit {0}
@@ -76,6 +120,12 @@ pub record Arrived (t : List ℕ) (j v : ℕ) (before after : List ℕ) : Type 0
   pub unqueued : objectRecord t (counts t .ipdus) j .depth ≡ 0 → step t (receive j) after .answer ≡ Done v
   pub queued : objectState (workingMemory before) j .count < objectRecord t (counts t .ipdus) j .depth
       → waiting (objectRecord t (counts t .ipdus) j .depth) j (workingMemory after) ≡ waiting (objectRecord t (counts t .ipdus) j .depth) j (workingMemory before) ++ (v ∷ [])
+
+-- no value kept since covers a bit of object i's reading
+abbrev pub Uncovered : List ℕ → Counts → ℕ → List Entry → Type 0
+Uncovered t c i es =
+    (n : ℕ) → n < objectRecord t (c .ipdus) i .size
+    → coveredSince t c i (objectRecord t (c .ipdus) i .ipdu) (messagePlace (objectRecord t (c .ipdus) i) n) es ≡ false
 
 -- two objects of the same order, start bit and length, in I-PDUs of one length
 pub record Like (t : List ℕ) (r : ObjectRecord) (u : List ℕ) (s : ObjectRecord) : Type 0 where

@@ -1,24 +1,31 @@
--- `table::search::first_wrong_object` meets its contract: the walk ends at the first wrong object, and the pair search names it.
+-- `table::search::first_wrong_object`: the objects passed are right, and the depth is their sum (`Passed`).
 -- Assumes nothing.
-use mathlib.Core.Path.{_∙_}
-use Rattle.table.proofs.Walk.{pair-named}
-use native.Mathlib.Omega.{arith}
+use Prim.Native.Nat.{_-_}
 use borrow.Author.Needs.{needs}
+use Rattle.table.proofs.Walk.{Passed, walk-starts, walk-goes-on, walk-ends, ends-alone, depth-fits, ends-past-depth}
 use Rattle.table.proofs.search.first_wrong_object.Statement.{statement}
 use Rattle.table.proofs.search.first_wrong_object.Tie as tie
 
-add-first-pair : tie.Need-add-first-pair
-add-first-pair c = omega (arith, c .before .walk .ensures .alone (c .if1 .left) .within, c .before .before .before .pre .0 .objects)
+abbrev Inv-loop : tie.InvT-loop
+Inv-loop t c n m depth₀ i₀ depth i = Passed t c depth i
 
-first-pair-requires : tie.Need-first-pair-requires
-first-pair-requires c κs = c .before .walk .ensures .alone (c .if1 .left)
-
-returns-2 : tie.Need-returns-2
-returns-2 c =
-    let a = c .before .before .before .before .args in
-    c .first-pair .ensures
-    ∙ pair-named (a .t .now) (a .c) _ (rw (c .before .if1 .left) at (c .before .before .walk .ensures))
+abbrev μ-loop : tie.MeasureT-loop
+μ-loop t c n m depth₀ i₀ depth i = m - i
 
 pub first-wrong-object-spec : {M : Type 1} → statement M
 first-wrong-object-spec =
-    tie.close (tie.spec (λ c κs. search needs) (λ c. search needs) add-first-pair first-pair-requires returns-2)
+    tie.close
+    (tie.spec
+    Inv-loop
+    μ-loop
+    (λ c. walk-starts _ _)
+    (λ c κs. search needs)
+    (λ c κs. search needs)
+    (λ c κs. search needs)
+    (λ c. search (needs, ends-alone))
+    (λ c. search (needs, depth-fits))
+    (λ c. search (needs, ends-past-depth))
+    (λ c. search needs)
+    (λ c. search needs)
+    (λ c. search (needs, walk-goes-on))
+    (λ c. search (needs, walk-ends)))

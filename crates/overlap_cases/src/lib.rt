@@ -1,0 +1,1 @@
+// No code: W-205 by examples, by computation and from the claims.
