@@ -12,6 +12,7 @@ mod layer;
 #[allow(dead_code)]
 mod ranges;
 #[path = "../tests/layer/records.rs"]
+#[allow(dead_code)]
 mod records;
 #[path = "../tests/layer/reference.rs"]
 mod reference;

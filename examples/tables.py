@@ -14,6 +14,7 @@ TRIGGERED, PENDING = 0, 1
 # Filters: the number, then the constants that it needs.
 ALWAYS = (0,)
 DIFFERS = (5,)
+ABOVE = (10,)  # above the value that was kept last
 
 
 def between(least, greatest):
@@ -71,6 +72,14 @@ TABLES = {
     "case11": one(sent_ipdu(4, mode=PERIODIC, period=4, offset=2, deadline=20), sent(0, start=13, bits=12)),
     # The example of W-203: the 256th value asks for a frame and the 257th does not.
     "one_in_three": one(sent_ipdu(4), sent(0, start=13, bits=12, rule=one_in(3, 0))),
+    # The example of W-205: one byte as eight door bits and as a number, once with the higher number and once with the lowest.
+    "doors": table(
+        [sent_ipdu(1), sent_ipdu(1)],
+        [sent(0, start=bit, bits=1, initial=1) for bit in range(8)]              # 0 to 7: the doors in I-PDU 0, all open
+        + [sent(0, start=0, bits=8, initial=0x5A)]                               # 8: the same byte as a number
+        + [sent(1, start=0, bits=8, rule=ABOVE, initial=0x5A)]                   # 9: I-PDU 1 as a number
+        + [sent(1, start=bit, bits=1, initial=0xA5 >> bit & 1) for bit in range(8)],  # 10 to 17: its doors
+    ),
     # A climate van. Humidity is in permille; both sensors drop equal values.
     "van": table(
         [

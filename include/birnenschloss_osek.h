@@ -34,7 +34,7 @@
  *                 confirmed nor timed out. The transmission deadline belongs to the I-PDU, is
  *                 always on and runs from the request, not from SendMessage; a confirmation or a
  *                 timeout sets the flags of all messages of the I-PDU, pending ones too. So does
- *                 the reception deadline. Messages that are sent share no bit.
+ *                 the reception deadline.
  *   time          Passes by birnenschloss_osek_tick alone; times in the table are ticks.
  *   notification  By flag alone: no callback, task, event or NMCallback. Each message has a flag
  *                 for each class. No generator makes ReadFlag_X and ResetFlag_X of a flag X: the

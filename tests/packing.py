@@ -76,8 +76,33 @@ def sweep(length, order):
     return f"length {length} {order}: {packed} places, digest {digest}"
 
 
+def pairs():
+    """Two readings that begin in one byte of 8, packed one after the other."""
+    digest, sharing = 1, 0
+    for n in range(16384):
+        value, start, turn = (n * 2654435761 + 1) % 2**32, n // 4 % 64, n // 2048 % 8
+        first = (("little", "big")[n % 2], start, 1 + turn * 4)
+        last = (("little", "big")[n // 2 % 2], start // 8 * 8 + n // 256 % 8, 1 + (turn * 11 + start) % 32)
+        frame, kept = [0] * 8, []
+        for place, given in [(first, value), (last, 2**32 - 1 - value)]:
+            kept.append(allowed(*place, 8))
+            if kept[-1]:
+                frame = pack(frame, *place, given)
+        read = [unpack(frame, *place) if fits else 4294967290 for place, fits in zip((first, last), kept)]
+        # The reading stored last gives its low bits, the older one its own bit wherever the last does not cover it.
+        covered = [place in places(*last) and kept[1] for place in places(*first)]
+        assert not kept[1] or read[1] == (2**32 - 1 - value) % 2 ** last[2]
+        assert not kept[0] or all(c or read[0] >> i & 1 == value >> i & 1 for i, c in enumerate(covered))
+        sharing += kept[0] and any(covered)
+        words = [int.from_bytes(frame[:4], "little"), int.from_bytes(frame[4:], "little")]
+        for x in kept + words + read:
+            digest = (digest * 31 + x) % 4294967291
+    assert sharing > 8192, "most of the pairs share bits"
+    return f"two readings: digest {digest}"
+
+
 def main():
-    lines = list(cases()) + [sweep(length, order) for length in range(10) for order in ("little", "big")]
+    lines = list(cases()) + [sweep(length, order) for length in range(10) for order in ("little", "big")] + [pairs()]
     if "--print" in sys.argv:
         print("\n".join(lines))
         return

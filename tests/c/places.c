@@ -3,7 +3,8 @@
  * here as document 01 gives it; the layer works each place out (request W-204). Every reading of
  * 1 to 32 bits that has room in 8 bytes is started, initialised, sent and received under both
  * orders: its bits have to stand where the list says, all others of the frame are 0, and none of
- * them is received.
+ * them is received. Two readings of one I-PDU may have the same bit (request W-205): the one sent
+ * last stands there.
  */
 #define TEST "places.c"
 #include "checks.h"
@@ -55,13 +56,10 @@ static void place(int object, int order, unsigned along, unsigned size)
     OBJECT(object)[5] = (uint8_t)order;
 }
 
-/* The frame in which a value's bits stand at the places of the list; each byte's other bits are
- * those of `others`. */
-static void lay(int order, unsigned along, unsigned size, uint32_t value, uint8_t others,
-                uint8_t frame[8])
+/* Puts a value's bits to the places of the list. */
+static void put(int order, unsigned along, unsigned size, uint32_t value, uint8_t frame[8])
 {
     unsigned i;
-    memset(frame, others, 8);
     for (i = 0; i < size; i++) {
         unsigned bit = walk(order, along + i);
         uint8_t own = (uint8_t)(1 << bit % 8);
@@ -70,6 +68,14 @@ static void lay(int order, unsigned along, unsigned size, uint32_t value, uint8_
         else
             frame[bit / 8] = (uint8_t)(frame[bit / 8] & ~own);
     }
+}
+
+/* The frame in which they stand there; each byte's other bits are those of `others`. */
+static void lay(int order, unsigned along, unsigned size, uint32_t value, uint8_t others,
+                uint8_t frame[8])
+{
+    memset(frame, others, 8);
+    put(order, along, size, value, frame);
 }
 
 /* A call that asks for the frame, which then is as it should be. */
@@ -114,18 +120,32 @@ static void checked(int right, uint32_t object)
     SAME_BYTES();
 }
 
-/* Two sent readings of one bit each: the table is wrong exactly where both have the same bit. */
-static void shared(int order, unsigned along)
+/* Two sent readings of one bit each, wherever they lie: the later of two values stands in a bit
+ * that both have. */
+static void two_readings(int order, unsigned along)
 {
+    uint8_t frame[8];
     int other;
-    unsigned bit;
+    unsigned bit, i;
     for (other = LITTLE; other <= BIG; other++) {
         for (bit = 0; bit < 64; bit++) {
             memcpy(lent.table, right_table, TABLE_SIZE);
             memcpy(OBJECT(1), OBJECT(0), 32);
             place(0, order, along, 1);
             place(1, other, bit, 1);
-            checked(walk(order, along) != walk(other, bit), 1);
+            OBJECT(0)[12] = 1; /* the initial value; that of the higher number, 0, stands */
+            checked(1, 0);
+            ANSWERS(birnenschloss_start(LENT), 0, 0);
+            ANSWERS(birnenschloss_start_periodic(LENT), 0, 0);
+            lay(order, along, 1, 1, 0, frame);
+            put(other, bit, 1, 0, frame);
+            hands_over(birnenschloss_tick(LENT, AREA), frame);
+            for (i = 0; i < 4; i++) {
+                put(order, along, 1, i & 1, frame);
+                hands_over(birnenschloss_send(LENT, AREA, 0, i & 1), frame);
+                put(other, bit, 1, i >> 1, frame);
+                hands_over(birnenschloss_send(LENT, AREA, 1, i >> 1), frame);
+            }
         }
     }
 }
@@ -137,7 +157,7 @@ int main(void)
     memset(lent.area, 0xC3, AREA_LENT);
     for (order = LITTLE; order <= BIG; order++) {
         for (along = 0; along < 64; along++) {
-            shared(order, along);
+            two_readings(order, along);
             memcpy(lent.table, right_table, TABLE_SIZE);
             for (size = 1; size <= 32; size++) {
                 place(SENT, order, along, size);

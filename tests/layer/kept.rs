@@ -182,11 +182,3 @@ impl Latest {
 fn goes_down(o: &Object) -> bool {
     o.bits.windows(2).any(|two| two[1] < two[0])
 }
-
-/// Whether two send objects share a bit of an I-PDU.
-pub fn overlaps(layer: &Layer) -> bool {
-    let sent = |o: &&Object| o.sends && o.ipdu.is_some();
-    let objects: Vec<&Object> = layer.objects.iter().filter(sent).collect();
-    let share = |a: &Object, b: &Object| a.ipdu == b.ipdu && a.bits.iter().any(|p| b.bits.contains(p));
-    (0..objects.len()).any(|i| objects[..i].iter().any(|o| share(o, objects[i])))
-}

@@ -309,7 +309,7 @@ impl Test {
         let (memory, area) = self.lent();
         let (m, a) = (memory.len(), area.len());
         let mut list = List::new(table, memory, area);
-        self.overlapping += kept::overlaps(&list.reference) as u64;
+        self.overlapping += records::overlap(&list.reference.objects) as u64;
         for _ in 0..self.run.below(3) {
             let made = act(&mut self.run, &list.reference, 0);
             list.over(self, &made, list.memory.clone());

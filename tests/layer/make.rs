@@ -2,8 +2,7 @@
 //! looks at the state of the reference only to choose arguments that meet interesting places.
 
 use crate::call::Call;
-use crate::kept::overlaps;
-use crate::records::{pack, Object};
+use crate::records::{overlap, pack, Object};
 use crate::reference::Layer;
 use crate::table::{place, right_table, Run, WORDS};
 
@@ -29,7 +28,7 @@ fn put_four(t: &mut [u8], at: usize, value: u32) {
 pub fn right(run: &mut Run) -> Vec<u8> {
     let mut t = some_right(run);
     for _ in 0..run.below(3) {
-        if !overlaps(&Layer::new(&t)) {
+        if !overlap(&Layer::new(&t).objects) {
             t = some_right(run);
         }
     }

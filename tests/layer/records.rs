@@ -157,6 +157,14 @@ pub fn unpack(places: &[usize], bytes: &[u8]) -> u32 {
     value
 }
 
+/// Whether two send objects share a bit of an I-PDU.
+pub fn overlap(objects: &[Object]) -> bool {
+    let sent: Vec<&Object> = objects.iter().filter(|o| o.sends && o.ipdu.is_some()).collect();
+    let share = |a: &Object, b: &Object| a.bits.iter().any(|bit| b.bits.contains(bit));
+    let pairs = |i: usize| sent[..i].iter().any(|a| a.ipdu == sent[i].ipdu && share(a, sent[i]));
+    (0..sent.len()).any(pairs)
+}
+
 // ---- Filters ----
 
 impl Object {

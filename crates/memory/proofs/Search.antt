@@ -65,14 +65,6 @@ least-before n f k h = go (found n f)
     go (there i j none e) = none k (omega (arith, least-at n f i j none e))
     go (nowhere none) = none k (omega (arith, least-none n f none))
 
--- a number that has the test
-pub any-true : (n : ℕ) (f : ℕ → Bool) → anyBelow n f ≡ true → (k : ℕ) × (k < n) × (f k ≡ true)
-any-true n f e = go (found n f)
-  where
-    go : Found n f → (k : ℕ) × (k < n) × (f k ≡ true)
-    go (there i h none here) = (i, h, here)
-    go (nowhere none) = absurd (true-not-false e (any-none n f none))
-
 -- what holds of each of two, where it is picked, holds of the one picked
 pub picked {ℓ κ} : {A : Type ℓ} (P : A → Type κ) (b : Bool) (x y : A) → (b ≡ true → P x) → (b ≡ false → P y) → P (pick b x y)
 picked P true x y p q = p refl

@@ -22,7 +22,7 @@ use Rattle.cases.proofs.Definitions.{definitions, _&_}
 use Rattle.cases.proofs.Computed.{all-hold}
 use Rattle.trace.specs.Book.{Entry, opened, advance}
 use Rattle.trace.specs.Actions.{Action, single, group, memoryAfterAll, bookAfterAll}
-use Rattle.trace.specs.Demand3.{ActionsTyped, done, frame, names, AllKept}
+use Rattle.trace.specs.Demand3.{ActionsTyped, done, frame, names}
 use Rattle.trace.specs.RoundTrip.{readingIn, storedLast, coveredSince, messagePlace, ipduBytes}
 use Rattle.trace.proofs.Pins.{tested, none}
 use Rattle.trace.proofs.Demand3.{demand-3}

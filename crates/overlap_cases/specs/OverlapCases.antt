@@ -1,9 +1,9 @@
 -- W-205 by examples: one byte as eight door bits and as a number, and readings of both orders and of different lengths that share bits.
 -- Worked out from document 02. Assumes nothing.
-use mathlib.Core.List.{List, [], _∷_, _++_}
+use mathlib.Core.List.{List, [], _∷_}
 use Prim.Native.Nat.{ℕ}
 use lib.ListN.{replicate}
-use Rattle.layer.specs.Step.{start, send, initialise, confirm}
+use Rattle.layer.specs.Step.{start, send, initialise}
 use Rattle.cases.specs.Case.{Line, shows, Case, answers, tableOf, ipduBytes, objectBytes, area}
 use Rattle.cases.specs.Lines.{ok, sendGives, confirmGood}
 

@@ -77,7 +77,7 @@ fn counted(t: Tally, answer: Packing) -> Tally {
     }
 }
 
-fn mix(digest: u64, x: u64) -> u64 {
+pub(crate) fn mix(digest: u64, x: u64) -> u64 {
     (digest % 4294967291 * 31 + x % 4294967296) % 4294967291
 }
 
@@ -93,7 +93,7 @@ fn mix_frame(digest: u64, frame: &[u8; 9]) -> u64 {
     d
 }
 
-fn mix_value(digest: u64, back: Unpacking) -> u64 {
+pub(crate) fn mix_value(digest: u64, back: Unpacking) -> u64 {
     match back {
         Unpacking::Value(v) => mix(digest, v as u64),
         Unpacking::Refused => mix(digest, 4294967290),

@@ -1,7 +1,7 @@
 -- The check accepts a table exactly where it has no wrong record (`accepted-right`, `right-accepted`), and what such a table
 -- gives to its users: every I-PDU number, sending object and bit place in range, every filter usable.
 -- Assumes nothing.
-use mathlib.Core.Bool.{true, false, not, _&&_, _||_}
+use mathlib.Core.Bool.{true, false, not, _&&_}
 use mathlib.Core.List.{List}
 use mathlib.Core.Logic.{⊎-elim}
 use mathlib.Core.Path.{_≡_, refl, ap}

@@ -1,7 +1,7 @@
 -- Of which entry a reading's own bits are (W-205): in bytes whose bits are the book's, the reading stored last gives its low bits, and any
 -- reading its own bit at each place that no value kept since covers.
 -- Assumes nothing.
-use mathlib.Core.Bool.{Bool, true, false, not, _&&_, _||_}
+use mathlib.Core.Bool.{Bool, true, false}
 use mathlib.Core.List.{List, [], _∷_}
 use mathlib.Core.Logic.{⊎-elim}
 use mathlib.Core.Path.{_≡_, refl, sym, ap, _∙_}
