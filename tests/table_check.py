@@ -62,7 +62,7 @@ def largest_cases():
         ("a largest table, a byte short", full[:-1], HEADER),
         ("a largest table, 33 bits in object 127", changed(full, last_object + 4, 33), "bad 383\n"),
         ("a largest table, the last byte not 0", changed(full, LARGEST - 1, 1), "bad 383\n"),
-        ("a largest table, object 127 on a bit of 125", changed(full, last_object + 3, 47), "bad 383\n"),
+        ("a largest table, object 127 on a bit of 125", changed(full, last_object + 3, 47), "ok 32 128\n"),
         ("a largest table, depths of 513", changed(full, last_object - 32 + 7, 9), "bad 382\n"),
         ("a largest table, I-PDU 31 of 9 bytes", changed(full, last_ipdu + 1, 9), "bad 31\n"),
         ("a largest table, the last byte of I-PDU 31 not 0", changed(full, last_ipdu + 15, 1), "bad 31\n"),
