@@ -55,20 +55,21 @@ OlderReads t c es k f =
     (i n : ℕ) → sends t c i ≡ true → objectRecord t (c .ipdus) i .ipdu ≡ k → n < objectRecord t (c .ipdus) i .size
     → coveredSince t c i k (messagePlace (objectRecord t (c .ipdus) i) n) es ≡ false → bit (readingIn (objectRecord t (c .ipdus) i) f) n ≡ bit (lastOf i es) n
 
--- ---- the round trip: of the bytes of each I-PDU in working memory, after every list that begins with an accepted start
+-- ---- the round trip: so it is of the bytes of each I-PDU in working memory, after every list that begins with an accepted start
 
 abbrev pub ipduBytes : List ℕ → ℕ → List ℕ → List ℕ
 ipduBytes t k m = part (slotAt k) (ipduRecord t k .length) (workingMemory m)
 
-abbrev pub StoredLast : List ℕ → Type 0
-StoredLast t =
+abbrev pub Stored : List ℕ → (List Entry → ℕ → List ℕ → Type 0) → Type 0
+Stored t Reads =
     (xs : List Action) → ActionsTyped xs → (m : List ℕ) → done (step t start m) ≡ true → (k : ℕ) → k < counts t .ipdus
-    → LastReads t (counts t) (bookAfterAll t (counts t) (opened t (counts t)) xs .entries) k (ipduBytes t k (memoryAfterAll t (single start ∷ xs) m))
+    → Reads (bookAfterAll t (counts t) (opened t (counts t)) xs .entries) k (ipduBytes t k (memoryAfterAll t (single start ∷ xs) m))
+
+abbrev pub StoredLast : List ℕ → Type 0
+StoredLast t = Stored t (LastReads t (counts t))
 
 abbrev pub StoredEarlier : List ℕ → Type 0
-StoredEarlier t =
-    (xs : List Action) → ActionsTyped xs → (m : List ℕ) → done (step t start m) ≡ true → (k : ℕ) → k < counts t .ipdus
-    → OlderReads t (counts t) (bookAfterAll t (counts t) (opened t (counts t)) xs .entries) k (ipduBytes t k (memoryAfterAll t (single start ∷ xs) m))
+StoredEarlier t = Stored t (OlderReads t (counts t))
 
 -- ---- and of each frame that a call hands over, with that call's own value entered
 
