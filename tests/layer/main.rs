@@ -171,8 +171,8 @@ impl List<'_> {
         }
     }
 
-    /// The rows of filterings and the values kept last after a call, with the layer before it; gives
-    /// what it has met.
+    /// The rows of filterings and the values kept last, after a call, with the layer before it;
+    /// gives what it has met.
     fn follow(&mut self, test: &Test, act: &Act, answer: Answer, before: &Layer) -> Vec<Event> {
         if act.refused_by(answer.number) {
             return Vec::new();
@@ -244,7 +244,8 @@ impl List<'_> {
         }
         let mut count_alone = memories::count_alone(&self.reference, &self.memory, &memory);
         let (rows, latest, changed) = (Rows::new(&reference), Latest::new(&reference), true);
-        let mut list = List { table, reference, library, memory, area, named, rows, latest, changed };
+        let mut list =
+            List { table, reference, library, memory, area, named, rows, latest, changed };
         let (m, a) = (list.memory.len(), list.area.len());
         let mut made = first.clone();
         for _ in 0..test.run.pick(&[1, 1, 1, CHANGED_CALLS]) {

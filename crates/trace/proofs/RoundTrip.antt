@@ -25,8 +25,8 @@ use Rattle.layer.specs.Step.{Call, start, indication, step}
 use Rattle.trace.specs.Book.{Entry, Book, unopened, sends, lastOf, opened, advance, bookAfter, bookBit}
 use Rattle.trace.specs.Actions.{Action, single, group, leaves, groupSends, advanceBy, memoryAfterAll, bookAfterAll}
 use Rattle.trace.specs.Demand3.{Typed, ActionsTyped, done, wordOf, frame, names, CallKept, AllKept, ActionKept, ActionsKept}
-use Rattle.trace.specs.RoundTrip.{readingIn, ipduBytes, StoredLast, StoredEarlier, FramesRead, AllRead, ActionRead, ActionsRead, Runs, memoryOf, ActionsRun, Takes, Arrived}
-use Rattle.trace.specs.RoundTrip.{Uncovered, Like}
+use Rattle.trace.specs.RoundTrip.{readingIn, LastReads, OlderReads, ipduBytes, StoredLast, StoredEarlier, FramesRead, AllRead, ActionRead, ActionsRead, Runs, memoryOf, ActionsRun}
+use Rattle.trace.specs.RoundTrip.{Takes, Arrived, Uncovered, Like}
 use Rattle.trace.proofs.Entries.{Full, advance-full, started-full, action-full, actions-full}
 use Rattle.trace.proofs.Covered.{last-sent, older-reads, whole-reads, last-reads}
 use Rattle.trace.proofs.FramesInArea.{in-area-none}
@@ -107,16 +107,21 @@ module _ (t : List ℕ) (bt : Bytes t) (xs : List Action) (y : ActionsTyped xs) 
       (actions-follow t c (a .table) bt xs y (opened t c) (step t start m .memory) (start-follows t c (a .table) bt m (a .long))) k in-table
       (rw at at way ∙ object-kind t c sending i s)
 
+  last : LastReads t (counts t) es k bytes
+  last i is-last =
+      let s = last-sent t (counts t) k i es (full .only) is-last in
+      last-reads t (counts t) right k in-table es full bytes (bits i (s .0) (s .1)) i is-last
+
+  older : OlderReads t (counts t) es k bytes
+  older i n s at = older-reads t (counts t) right k in-table es full bytes (bits i s at) i n s at
+
 -- the reading stored last gives its low bits
 pub stored-last : (t : List ℕ) → Bytes t → StoredLast t
-stored-last t bt xs y m e k low i last =
-    let s = last-sent t (counts t) k i (es t bt xs y m e k low) (full t bt xs y m e k low .only) last in
-    last-reads t (counts t) (right t bt xs y m e k low) k low _ (full t bt xs y m e k low) _ (bits t bt xs y m e k low i (s .0) (s .1)) i last
+stored-last t bt = last t bt
 
 -- an older one gives its own bit at each place that no value kept since covers
 pub stored-earlier : (t : List ℕ) → Bytes t → StoredEarlier t
-stored-earlier t bt xs y m e k low i n s at =
-    older-reads t (counts t) (right t bt xs y m e k low) k low _ (full t bt xs y m e k low) _ (bits t bt xs y m e k low i s at) i n s at
+stored-earlier t bt = older t bt
 
 -- ---- a list with groups
 
