@@ -1,4 +1,4 @@
--- Document 01, "Calls": what a start writes. Assumes nothing.
+-- Document 01, "Calls", with W-205: what a start writes. Assumes nothing.
 use mathlib.Core.List.{List, []}
 use Prim.Native.Nat.{ℕ}
 use lib.Dec.{eqb}
@@ -65,7 +65,7 @@ startAs Receive o i queue m = withObjectState m i (unused (o .initial) (o .initi
 abbrev pub startObject : List ℕ → Counts → ℕ → List ℕ → List ℕ
 startObject t c i m = startAs (object t c i .direction) (object t c i) i (depths t c i) m
 
--- all rows written, the layer not running yet
+-- all rows written, by rising number: where initial values overlap, that of the higher object stands (W-205). The layer does not run yet
 unfoldable pub prepared : List ℕ → Counts → List ℕ
 prepared t c = fold (c .objects) (startObject t c) (fold (c .ipdus) (startIpdu t) blank)
 
