@@ -7,7 +7,8 @@ use Prim.Native.Nat.{ℕ, suc, _+_, _^_, _≤_, _<_, zero-le}
 use native.Mathlib.Numerals.{add-one}
 use native.Mathlib.Omega.{arith}
 use borrow.Author.Count.{below-more}
-use borrow.Author.Tests.{lt-ltb, le-ltb, not-false}
+use borrow.Author.Tests.{lt-ltb, le-ltb, leb-true, not-false}
+use lib.Dec.{leb}
 use Rattle.memory.specs.Search.{least}
 use Rattle.memory.proofs.Search.{least-at, least-none}
 use Rattle.table.specs.declared.Counts.{Counts}
@@ -42,8 +43,11 @@ module _ (t : List ℕ) (c : Counts) {depth i : ℕ} (p : Passed t c depth i) wh
     sum : depth + r .depth ≡ depths t c (suc i)
     sum = rw (p .sum, here)
 
-    pub ends-past-depth : mostQueued < depth + r .depth → i ≡ least (c .objects) (wrongObject t c)
-    ends-past-depth past = named (or-true (wrongAlone t c i) (pastDepth t c i) (lt-ltb _ _ (rw sum at past)))
+    -- the code's limit is the definition's, or above it; that it is no higher is what `walk-goes-on` asks for
+    pub ends-past-depth : {limit : ℕ} → leb mostQueued limit ≡ true → limit < depth + r .depth → i ≡ least (c .objects) (wrongObject t c)
+    ends-past-depth {limit} enough past =
+        let over : mostQueued < depth + r .depth = omega (arith, leb-true mostQueued limit enough, past) in
+        named (or-true (wrongAlone t c i) (pastDepth t c i) (lt-ltb _ _ (rw sum at over)))
 
     module _ {right : Bool} {x : References} (test : right ≡ objectRight r x) (refers : x ≡ references t c r) where
       alone : wrongAlone t c i ≡ not right
