@@ -1,17 +1,18 @@
 -- Laws of filters that callers cite.
 -- Assumes nothing.
-use mathlib.Core.Bool.{true, false, not, _&&_}
+use mathlib.Core.Bool.{Bool, true, false, not, _&&_, _||_}
 use mathlib.Core.List.{List, [], _∷_}
 use mathlib.Core.Logic.{⊎-elim}
 use mathlib.Core.Path.{_≡_, refl, sym, ap, _∙_}
 use Prim.Native.Nat.{ℕ, zero, suc, _+_, _-_, _%_, _≤_, _<_, zero-le}
 use native.Mathlib.Nat.{mod-lt, mod-eq-of-lt, mod-self, mod-add-mod}
 use native.Mathlib.Omega.{arith}
-use borrow.Author.Tests.{eqb-true, leb-true, ltb-true, ltb-false, lt-ltb, le-ltb, le-leb, lt-leb, not-false}
+use borrow.Author.Tests.{leb-true, ltb-true, ltb-false, lt-ltb, le-ltb, le-leb, lt-leb, ne-eqb, not-false}
 use denote.Enum.Declared.{tagOf}
 use types.Run.{OneOf, miss}
 use lib.Dec.{leb, ltb, eqb}
-use Rattle.memory.proofs.Search.{any-false}
+use Rattle.memory.specs.Search.{pick}
+use Rattle.memory.proofs.Search.{any-false, below-suc}
 use Rattle.memory.proofs.Tests.{and-split, true-or-false, lt-or-le, eq-or-ne}
 use Rattle.filter.proofs.Filter.{the-type}
 use Rattle.filter.specs.declared.Filter.{Filter}
@@ -156,7 +157,40 @@ no-constants number =
     (eq-or-ne number 14))
     (lt-or-le number 14)
 
-pub number-decides : (number c d : ℕ) → (eqb c 0 && eqb d 0) ≡ true → leb number 13 ≡ filterRight number c d
-number-decides number c d e =
-    let zeros = and-split (eqb c 0) (eqb d 0) e in
-    rw (eqb-true c 0 (zeros .0), eqb-true d 0 (zeros .1)) (no-constants number)
+-- ---- the tests of a record's filter as the code makes them: which numbers have two constants, which have the first alone
+
+abbrev two : ℕ → Bool
+two n = eqb n 2 || eqb n 3 || eqb n 8 || eqb n 9
+
+abbrev one : ℕ → Bool
+one n = eqb n 6 || eqb n 7
+
+abbrev tests : ℕ → ℕ → ℕ → Bool
+tests c d n = pick (two n) true (pick (one n) (eqb d 0) (pick (eqb n 14) (leb 1 c && leb c 255 && ltb d c) (leb n 13 && eqb c 0 && eqb d 0)))
+
+pub by-number : (c d n : ℕ) → filterRight n c d ≡ tests c d n
+unfolding filterRight filterOf
+by-number c d n = ⊎-elim (each n) high (lt-or-le n 15)
+  where
+    So : ℕ → Type 0
+    So k = filterRight k c d ≡ tests c d k
+
+    each : (k : ℕ) → k < 15 → So k
+    each =
+        below-suc (below-suc (below-suc (below-suc (below-suc (below-suc (below-suc (below-suc (below-suc (below-suc (below-suc (below-suc (below-suc (below-suc (below-suc
+        (λ k h. absurd (omega arith)) refl) refl) refl) refl) refl) refl) refl) refl) refl) refl) refl) refl) refl) refl) refl
+
+    high : 15 ≤ n → So n
+    high h =
+        let no : (k : ℕ) → k < 15 → eqb n k ≡ false = λ k low. ne-eqb n k (omega arith) in
+        rw (
+          lt-leb n 14 (omega arith),
+          lt-leb n 13 (omega arith),
+          no 2 (omega arith),
+          no 3 (omega arith),
+          no 8 (omega arith),
+          no 9 (omega arith),
+          no 6 (omega arith),
+          no 7 (omega arith),
+          no 14 (omega arith),
+        )

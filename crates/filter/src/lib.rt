@@ -2,7 +2,7 @@
 ghost use mathlib.Core.Path.{_≡_};
 ghost use Prim.Native.Nat.{_-_};
 ghost use lib.Dec.{leb};
-ghost use Rattle.filter.specs.Filters.{passes, greatestCount, nextCount, CountFits, filterOf, constants, filterRight};
+ghost use Rattle.filter.specs.Filters.{passes, greatestCount, nextCount, CountFits, filterOf, filterRight};
 
 // A filter with the constants that it needs.
 pub enum Filter {
@@ -63,39 +63,20 @@ pub fn filter_of(number: u32, first: u32, second: u32) -> Filter
     }
 }
 
-// Whether a table's record may have this filter number with these two constants. With both zero, each but 14 is right.
+// Whether a table's record may have this filter number with these two constants: an unused one is zero.
 pub fn filter_right(number: u32, first: u32, second: u32) -> bool
     ensures { λ r. ⌜ r ≡ filterRight number first second ⌝ }
 {
-    if (first == 0) & (second == 0) {
-        return number <= 13;
+    if (number == 2) | (number == 3) | (number == 8) | (number == 9) {
+        return true;
     }
-    let known = number <= 14;
-    known & constants_right(filter_of(number, first, second), first, second)
-}
-
-// Whether the filter's two constants are right: an unused one is zero.
-fn constants_right(filter: Filter, first: u32, second: u32) -> bool
-    ensures { λ r. ⌜ r ≡ constants filter first second ⌝ }
-{
-    let none = (first == 0) & (second == 0);
-    match filter {
-        Filter::MaskedNewEqualsX { mask: _, x: _ } => true,
-        Filter::MaskedNewDiffersX { mask: _, x: _ } => true,
-        Filter::MaskedNewEqualsMaskedOld { mask: _ } => second == 0,
-        Filter::MaskedNewDiffersMaskedOld { mask: _ } => second == 0,
-        Filter::NewIsWithin { min: _, max: _ } => true,
-        Filter::NewIsOutside { min: _, max: _ } => true,
-        Filter::OneEveryN { period, offset } => (1 <= period) & (period <= 255) & (offset < period),
-        Filter::Always => none,
-        Filter::Never => none,
-        Filter::NewIsEqual => none,
-        Filter::NewIsDifferent => none,
-        Filter::NewIsGreater => none,
-        Filter::NewIsLessOrEqual => none,
-        Filter::NewIsLess => none,
-        Filter::NewIsGreaterOrEqual => none,
+    if (number == 6) | (number == 7) {
+        return second == 0;
     }
+    if number == 14 {
+        return (1 <= first) & (first <= 255) & (second < first);
+    }
+    (number <= 13) & (first == 0) & (second == 0)
 }
 
 // Whether `new` passes, by old and the count. With filter 14 a count in its range is below the period and needs no remainder.

@@ -1,6 +1,6 @@
 // Little-endian numbers in lent bytes, and bytes copied or cleared. Every caller has checked that the bytes are there.
 ghost use mathlib.Core.Path.{_≡_};
-ghost use Prim.Native.Nat.{_+_, _≤_, _<_, _^_};
+ghost use Prim.Native.Nat.{_+_, _*_, _≤_, _<_, _^_};
 ghost use lib.ListN.{length, replicate};
 ghost use Rattle.memory.specs.Bytes.{bytesOf, numberAt, replaced};
 
@@ -8,6 +8,14 @@ fn wide(x: u8) -> u64
     ensures { λ r. ⌜ (r ≡ x) × (r < 256) ⌝ }
 {
     x as u64
+}
+
+// A byte put above the low `at` bits of a number. Reads that are joined like this are compiled to one load.
+fn put(below: u64, x: u8, at: u32) -> u64
+    requires { ⌜ (at ≤ 56) × (below < 2 ^ at) ⌝ }
+    ensures { λ r. ⌜ (r ≡ x * 2 ^ at + below) × (r < 2 ^ (at + 8)) ⌝ }
+{
+    below | (x as u64) << at
 }
 
 // The byte at `at`.
@@ -24,7 +32,7 @@ pub fn read16(m: &[u8], at: usize) -> u32
     ensures { λ r. ⌜ (r ≡ numberAt 2 at (now (m .entry))) × (r < 2 ^ 16) ⌝ }
 {
     let b = at + 1;
-    (wide(m[at]) + 256 * wide(m[b])) as u32
+    put(wide(m[at]), m[b], 8) as u32
 }
 
 // The four bytes from `at` on, as a number.
@@ -35,10 +43,9 @@ pub fn read32(m: &[u8], at: usize) -> u32
     let b = at + 1;
     let c = b + 1;
     let d = c + 1;
-    let z = wide(m[d]);
-    let y = wide(m[c]) + 256 * z;
-    let x = wide(m[b]) + 256 * y;
-    (wide(m[at]) + 256 * x) as u32
+    let x = put(wide(m[at]), m[b], 8);
+    let y = put(x, m[c], 16);
+    put(y, m[d], 24) as u32
 }
 
 // The eight bytes from `at` on, as a number.
@@ -53,14 +60,13 @@ pub fn read64(m: &[u8], at: usize) -> u64
     let f = e + 1;
     let g = f + 1;
     let h = g + 1;
-    let z = wide(m[h]);
-    let y = wide(m[g]) + 256 * z;
-    let x = wide(m[f]) + 256 * y;
-    let w = wide(m[e]) + 256 * x;
-    let v = wide(m[d]) + 256 * w;
-    let u = wide(m[c]) + 256 * v;
-    let t = wide(m[b]) + 256 * u;
-    wide(m[at]) + 256 * t
+    let t = put(wide(m[at]), m[b], 8);
+    let u = put(t, m[c], 16);
+    let v = put(u, m[d], 24);
+    let w = put(v, m[e], 32);
+    let x = put(w, m[f], 40);
+    let y = put(x, m[g], 48);
+    put(y, m[h], 56)
 }
 
 // Puts a number's low byte at `at`.

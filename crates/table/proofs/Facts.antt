@@ -1,7 +1,7 @@
 -- What a right record says, field by field.
 -- Assumes nothing.
-use mathlib.Core.Bool.{Bool, true, false, _&&_, _||_}
-use mathlib.Core.Logic.{⊎-elim}
+use mathlib.Core.Bool.{Bool, true, false, not, _&&_, _||_}
+use mathlib.Core.Logic.{_⊎_, inl, inr, ⊎-elim}
 use mathlib.Core.List.{List, [], _∷_}
 use mathlib.Core.Path.{_≡_, refl}
 use Prim.Native.Nat.{ℕ, _≤_, _<_}
@@ -10,7 +10,7 @@ use borrow.Author.Tests.{leb-true, ltb-true, eqb-true}
 use lib.Dec.{leb, ltb, eqb}
 use lib.ListN.{length}
 use Rattle.memory.specs.Search.{pick}
-use Rattle.memory.proofs.Tests.{and-split, each-true, true-not-false, lt-or-le}
+use Rattle.memory.proofs.Tests.{and-split, each-true, or-cases, true-not-false, lt-or-le}
 use Rattle.bits.specs.Bits.{room}
 use Rattle.bits.specs.Slots.{position, InSlot}
 use Rattle.bits.proofs.Places.{run, room-slot}
@@ -21,6 +21,7 @@ use Rattle.table.specs.declared.ObjectRecord.{ObjectRecord}
 use Rattle.table.specs.declared.References.{References}
 use Rattle.table.specs.Records.{receiving, sending, ipduRecord}
 use Rattle.table.specs.Rules.{ipduRight, sendIpdu, receiveIpdu, orderOf, references, sendObject, receiveObject, withoutIpdu, withinIpdu, senderRight, bytesRight, objectRight}
+use Rattle.table.proofs.Turns.{or-false}
 
 -- ---- object records
 
@@ -47,6 +48,9 @@ pub record ByteFacts (r : ObjectRecord) : Type 0 where
   pub orders : r .order ≤ 1
   pub transfers : r .transfer ≤ 1
   pub depths : r .depth ≤ 16
+  pub above-filter : r .«zero_9» ≡ 0
+  pub above-that : r .«zero_10» ≡ 0
+  pub tail : r .«zero_24» ≡ 0
 
 pub byte-facts : (r : ObjectRecord) → bytesRight r ≡ true → ByteFacts r
 byte-facts r e =
@@ -54,7 +58,7 @@ byte-facts r e =
     each-true (leb 1 (r .size))
     (leb (r .size) 32 ∷ leb (r .order) 1 ∷ leb (r .transfer) 1 ∷ leb (r .depth) 16
     ∷ eqb (r .«zero_9») 0 ∷ eqb (r .«zero_10») 0 ∷ eqb (r .«zero_24») 0 ∷ []) e in
-    search leb-true
+    search (leb-true, eqb-true)
 
 -- ---- I-PDU records
 
@@ -62,6 +66,8 @@ pub record IpduFacts (r : IpduRecord) : Type 0 where
   pub least : 1 ≤ r .length
   pub most : r .length ≤ 8
   pub modes : r .mode ≤ 2
+  pub above-mode : r .«zero_3» ≡ 0
+  pub tail : r .«zero_14» ≡ 0
   pub directions : (eqb (r .direction) sending && sendIpdu r || eqb (r .direction) receiving && receiveIpdu r) ≡ true
 
 pub ipdu-facts : (r : IpduRecord) → ipduRight r ≡ true → IpduFacts r
@@ -71,7 +77,47 @@ ipdu-facts r e =
     each-true (leb 1 (r .length))
     (leb (r .length) 8 ∷ leb (r .mode) 2 ∷ eqb (r .«zero_3») 0 ∷ eqb (r .«zero_14») 0
     ∷ (eqb (r .direction) sending && sendIpdu r || eqb (r .direction) receiving && receiveIpdu r) ∷ []) e in
-    search leb-true
+    search (leb-true, eqb-true)
+
+pub direction-known : (r : IpduRecord) → ipduRight r ≡ true → (r .direction ≡ sending) ⊎ (r .direction ≡ receiving)
+direction-known r e =
+    ⊎-elim
+    (λ s. inl (eqb-true _ _ (and-split (eqb (r .direction) sending) (sendIpdu r) s .0)))
+    (λ s. inr (eqb-true _ _ (and-split (eqb (r .direction) receiving) (receiveIpdu r) s .0)))
+    (or-cases (eqb (r .direction) sending && sendIpdu r) (eqb (r .direction) receiving && receiveIpdu r) (ipdu-facts r e .directions))
+
+-- of one that is sent
+pub record SendFacts (r : IpduRecord) : Type 0 where
+  pub deadline : 1 ≤ r .deadline
+  pub first : r .«first_deadline» ≡ 0
+  pub times : (eqb (r .mode) 0 && eqb (r .period) 0 && eqb (r .offset) 0 || leb 1 (r .mode) && leb 1 (r .period) && leb 1 (r .offset)) ≡ true
+  pub delays : (not (eqb (r .mode) 1) || eqb (r .«minimum_delay») 0) ≡ true
+
+pub send-facts : (r : IpduRecord) → ipduRight r ≡ true → r .direction ≡ sending → SendFacts r
+send-facts r e one =
+    let some : (sendIpdu r || false) ≡ true = rw one at (ipdu-facts r e .directions) in
+    let all =
+    each-true (leb 1 (r .deadline))
+    (eqb (r .«first_deadline») 0
+    ∷ (eqb (r .mode) 0 && eqb (r .period) 0 && eqb (r .offset) 0 || leb 1 (r .mode) && leb 1 (r .period) && leb 1 (r .offset))
+    ∷ (not (eqb (r .mode) 1) || eqb (r .«minimum_delay») 0) ∷ []) (rw or-false at some) in
+    search (leb-true, eqb-true)
+
+-- of one that is received
+pub record ReceiveFacts (r : IpduRecord) : Type 0 where
+  pub mode : r .mode ≡ 0
+  pub period : r .period ≡ 0
+  pub offset : r .offset ≡ 0
+  pub delay : r .«minimum_delay» ≡ 0
+  pub deadlines : (eqb (r .«first_deadline») 0 || leb 1 (r .deadline)) ≡ true
+
+pub receive-facts : (r : IpduRecord) → ipduRight r ≡ true → r .direction ≡ receiving → ReceiveFacts r
+receive-facts r e two =
+    let some : receiveIpdu r ≡ true = rw two at (ipdu-facts r e .directions) in
+    let all =
+    each-true (eqb (r .mode) 0)
+    (eqb (r .period) 0 ∷ eqb (r .offset) 0 ∷ eqb (r .«minimum_delay») 0 ∷ (eqb (r .«first_deadline») 0 || leb 1 (r .deadline)) ∷ []) some in
+    search (leb-true, eqb-true)
 
 -- ---- where an object's bits lie
 

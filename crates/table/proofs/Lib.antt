@@ -1,6 +1,10 @@
 pub mod Facts
 pub mod Turns
-pub mod Tests
+pub mod IpduTests
+pub mod IpduReads
+pub mod ObjectReads
+pub mod FieldTests
+pub mod ObjectTests
 pub mod Verdicts
 pub mod Walk
 pub mod Accepted

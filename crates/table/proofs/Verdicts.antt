@@ -6,17 +6,19 @@ use mathlib.Core.Logic.{⊎-elim}
 use mathlib.Core.Path.{_≡_}
 use Prim.Native.Nat.{ℕ, _≤_, _<_}
 use native.Mathlib.Omega.{arith}
-use borrow.Author.Tests.{leb-true, eqb-true, lt-ltb, le-ltb, ltb-true}
+use borrow.Author.Tests.{leb-true, eqb-true, lt-ltb, le-ltb, ltb-true, not-false}
 use lib.Dec.{leb, ltb, eqb}
 use lib.ListN.{length}
 use Rattle.memory.specs.Bytes.{numberAt}
 use Rattle.memory.specs.Search.{least}
+use Rattle.memory.proofs.Search.{least-before}
 use Rattle.memory.proofs.Tests.{and-split, each-true, true-or-false}
 use Rattle.table.specs.declared.Counts.{Counts}
 use Rattle.table.specs.declared.Verdict.the-variants.{Accepted, WrongIpdu, WrongObject}
 use Rattle.table.specs.Records.{mostIpdus, mostObjects, ipduBase, objectBase, tableLength, counts}
 use Rattle.table.specs.Rules.{offsetsRight, headerRight}
 use Rattle.table.specs.Check.{Shape, wrongIpdu, wrongObject, checkObjects, checkIpdus, checkRecords, check, placeOf}
+use Rattle.table.specs.Inner.{IpdusRight}
 
 pub header-long : (t : List ℕ) → headerRight t ≡ true → 16 ≤ length t
 unfolding headerRight
@@ -38,6 +40,10 @@ pub counts-shape : (t : List ℕ) {c : Counts} → headerRight t ≡ true → c 
 counts-shape t h e = rw e (header-shape t h)
 
 -- ---- what the check answers, from what the searches found
+
+pub none-found : (t : List ℕ) (c : Counts) (k : ℕ) → k ≡ least (c .ipdus) (wrongIpdu t) → c .ipdus ≤ k → IpdusRight t c
+none-found t c k first none =
+    record { each = λ j low. not-false _ (least-before (c .ipdus) (wrongIpdu t) j (omega (arith, first, none, low))) }
 
 module _ (t : List ℕ) (c : Counts) (h : headerRight t ≡ true) (here : c ≡ counts t) (k : ℕ) (first : k ≡ least (c .ipdus) (wrongIpdu t)) where
   pub names-ipdu : k < c .ipdus → WrongIpdu (record { 0 = k }) ≡ check t

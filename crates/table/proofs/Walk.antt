@@ -3,7 +3,7 @@
 use mathlib.Core.Bool.{Bool, true, false, not}
 use mathlib.Core.List.{List}
 use mathlib.Core.Path.{_≡_, refl, sym, ap, _∙_}
-use Prim.Native.Nat.{ℕ, suc, _+_, _^_, _≤_, _<_, zero-le}
+use Prim.Native.Nat.{ℕ, suc, _+_, _*_, _^_, _≤_, _<_, zero-le}
 use native.Mathlib.Numerals.{add-one}
 use native.Mathlib.Omega.{arith}
 use borrow.Author.Count.{below-more}
@@ -12,9 +12,7 @@ use lib.Dec.{leb}
 use Rattle.memory.specs.Search.{least}
 use Rattle.memory.proofs.Search.{least-at, least-none}
 use Rattle.table.specs.declared.Counts.{Counts}
-use Rattle.table.specs.declared.ObjectRecord.{ObjectRecord}
-use Rattle.table.specs.declared.References.{References}
-use Rattle.table.specs.Records.{mostQueued, objectRecord}
+use Rattle.table.specs.Records.{mostQueued, objectBase, objectRecordAt, objectRecord}
 use Rattle.table.specs.Rules.{references, objectRight}
 use Rattle.table.specs.Check.{wrongAlone, depths, pastDepth, wrongObject}
 use Rattle.table.proofs.Facts.{object-facts, byte-facts}
@@ -36,31 +34,36 @@ module _ (t : List ℕ) (c : Counts) {depth i : ℕ} (p : Passed t c depth i) wh
       let all : i ≡ c .objects = omega (arith, p .within) in
       all ∙ sym (least-none (c .objects) (wrongObject t c) (λ j h. p .right j (omega arith)))
 
-  module _ (h : i < c .objects) {r : ObjectRecord} (here : r ≡ objectRecord t (c .ipdus) i) where
+  module _ (h : i < c .objects) {right : Bool}
+      (test : right ≡ objectRight (objectRecordAt (objectBase (c .ipdus) + 32 * i) t) (references t c (objectRecordAt (objectBase (c .ipdus) + 32 * i) t))) where
     named : wrongObject t c i ≡ true → i ≡ least (c .objects) (wrongObject t c)
     named wrong = sym (least-at (c .objects) (wrongObject t c) i h (p .right) wrong)
 
-    sum : depth + r .depth ≡ depths t c (suc i)
-    sum = rw (p .sum, here)
+    alone : wrongAlone t c i ≡ not right
+    unfolding objectRecord
+    alone = ap not (sym test)
 
-    -- the code's limit is the definition's, or above it; that it is no higher is what `walk-goes-on` asks for
-    pub ends-past-depth : {limit : ℕ} → leb mostQueued limit ≡ true → limit < depth + r .depth → i ≡ least (c .objects) (wrongObject t c)
-    ends-past-depth {limit} enough past =
-        let over : mostQueued < depth + r .depth = omega (arith, leb-true mostQueued limit enough, past) in
-        named (or-true (wrongAlone t c i) (pastDepth t c i) (lt-ltb _ _ (rw sum at over)))
+    pub ends-alone : not right ≡ true → i ≡ least (c .objects) (wrongObject t c)
+    ends-alone wrong = named (rw (alone, wrong))
 
-    module _ {right : Bool} {x : References} (test : right ≡ objectRight r x) (refers : x ≡ references t c r) where
-      alone : wrongAlone t c i ≡ not right
-      alone = ap not (sym (test ∙ ap (objectRight r) refers ∙ ap (λ (s : ObjectRecord). objectRight s (references t c s)) here))
+    module _ {d : ℕ} (here : d ≡ objectRecordAt (objectBase (c .ipdus) + 32 * i) t .depth) where
+      sum : depth + d ≡ depths t c (suc i)
+      unfolding objectRecord
+      sum = rw (p .sum, here)
 
-      pub ends-alone : not right ≡ true → i ≡ least (c .objects) (wrongObject t c)
-      ends-alone wrong = named (rw (alone, wrong))
+      -- the code's limit is the definition's, or above it; that it is no higher is what `walk-goes-on` asks for
+      pub ends-past-depth : {limit : ℕ} → leb mostQueued limit ≡ true → limit < depth + d → i ≡ least (c .objects) (wrongObject t c)
+      ends-past-depth {limit} enough past =
+          let over : mostQueued < depth + d = omega (arith, leb-true mostQueued limit enough, past) in
+          named (or-true (wrongAlone t c i) (pastDepth t c i) (lt-ltb _ _ (rw sum at over)))
 
       module _ (left : not right ≡ false) where
-        pub depth-fits : depth + r .depth < 2 ^ 32
-        depth-fits = omega (arith, byte-facts r (object-facts r x (sym test ∙ not-false right left) .bytes) .depths, p .low)
+        pub depth-fits : depth + d < 2 ^ 32
+        depth-fits =
+            let r = objectRecordAt (objectBase (c .ipdus) + 32 * i) t in
+            omega (arith, byte-facts r (object-facts r (references t c r) (sym test ∙ not-false right left) .bytes) .depths, p .low)
 
-        pub walk-goes-on : depth + r .depth ≤ mostQueued → Passed t c (depth + r .depth) (i + 1)
+        pub walk-goes-on : depth + d ≤ mostQueued → Passed t c (depth + d) (i + 1)
         walk-goes-on low =
             record {
               within = omega arith;
@@ -68,3 +71,7 @@ module _ (t : List ℕ) (c : Counts) {depth i : ℕ} (p : Passed t c depth i) wh
               low = low;
               right = below-more (λ (j : ℕ). wrongObject t c j ≡ false) i (p .right) (rw (alone, left) (le-ltb _ _ (rw sum at low)));
             }
+
+        -- an object with no queue leaves the sum
+        pub walk-stays : d ≡ 0 → Passed t c depth (i + 1)
+        walk-stays none = let same : depth + d ≡ depth = omega arith in rw same at (walk-goes-on (omega (arith, p .low)))

@@ -7,8 +7,6 @@ pub use records::header_counts;
 pub use records::ipdu_record;
 pub use records::object_record;
 pub use rules::header_right;
-pub use rules::ipdu_right;
-pub use rules::object_right;
 pub use rules::order_of;
 pub use search::check;
 pub use search::number_of;

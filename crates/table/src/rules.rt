@@ -1,26 +1,27 @@
-// When the header and a record are right by themselves. Tests of one kind are joined by `&` and `|`, and are proved equal to
-// their definition by computation.
+// When the header and a record are right by themselves. A record is read where it lies, from byte `a` of the table on, each byte
+// where a rule first asks for it, and bytes that have to be zero together with their neighbours.
 use super::Counts;
 use super::HEADER_SIZE;
 use super::IPDU_SIZE;
-use super::IpduRecord;
 use super::MOST_IPDUS;
 use super::MOST_OBJECTS;
 use super::NONE;
 use super::OBJECT_SIZE;
-use super::ObjectRecord;
 use super::RECEIVING;
-use super::References;
 use super::SENDING;
-use bits::BitSize;
-use bits::ByteLength;
 use bits::Order;
-ghost use mathlib.Core.Bool.{_||_};
+ghost use mathlib.Core.Bool.{_&&_, _||_};
 ghost use mathlib.Core.Path.{_≡_};
-ghost use Prim.Native.Nat.{_≤_};
+ghost use Prim.Native.Nat.{_+_, _*_, _≤_, _<_};
+ghost use lib.Dec.{leb, ltb, eqb};
 ghost use lib.ListN.{length};
-ghost use Rattle.table.specs.Rules.{offsetsRight, headerRight, ipduBytes, ipduRight, sendIpdu, receiveIpdu, orderOf, sendObject, receiveObject, withoutIpdu};
-ghost use Rattle.table.specs.Rules.{withinIpdu, bytesRight, objectRight};
+ghost use Rattle.memory.specs.Search.{pick};
+ghost use Rattle.bits.specs.Bits.{room};
+ghost use Rattle.filter.specs.Filters.{filterRight};
+ghost use Rattle.table.specs.Records.{sending, receiving, absent, ipduRecordAt, objectRecordAt, objectRecord};
+ghost use Rattle.table.specs.Rules.{offsetsRight, headerRight, ipduRight, orderOf, references, objectRight};
+ghost use Rattle.table.specs.Check.{Shape};
+ghost use Rattle.table.specs.Inner.{Begun, Filtered, IpdusRight, filterField, placeField, useFields};
 
 // Whether the header is right, for a slice of any length.
 pub fn header_right(t: &[u8]) -> bool
@@ -51,42 +52,71 @@ fn offsets_right(t: &[u8], c: Counts) -> bool
 }
 
 // Whether an I-PDU record is right.
-pub fn ipdu_right(r: IpduRecord) -> bool
-    ensures { λ b. ⌜ b ≡ ipduRight r ⌝ }
+pub fn ipdu_right(t: &[u8], a: usize) -> bool
+    requires { ⌜ a + 16 ≤ length (now t) ⌝ }
+    ensures { λ b. ⌜ b ≡ ipduRight (ipduRecordAt a (now (t .entry))) ⌝ }
 {
-    if !ipdu_bytes(r) {
+    let length = memory::read8(t, a + 1);
+    if length < 1 {
         return false;
     }
-    if r.direction == SENDING {
-        return send_ipdu(r);
+    if 8 < length {
+        return false;
     }
-    (r.direction == RECEIVING) & receive_ipdu(r)
+    if memory::read16(t, a + 14) != 0 {
+        return false;
+    }
+    let direction = memory::read8(t, a);
+    if direction == SENDING {
+        return send_ipdu(t, a);
+    }
+    if direction != RECEIVING {
+        return false;
+    }
+    receive_ipdu(t, a)
 }
 
-fn ipdu_bytes(r: IpduRecord) -> bool
-    ensures { λ b. ⌜ b ≡ ipduBytes r ⌝ }
+fn send_ipdu(t: &[u8], a: usize) -> bool
+    requires { ⌜ (a + 16 ≤ length (now t)) × Begun (ipduRecordAt a (now t)) sending ⌝ }
+    ensures { λ b. ⌜ b ≡ ipduRight (ipduRecordAt a (now (t .entry))) ⌝ }
 {
-    (1 <= r.length) & (r.length <= 8) & (r.mode <= 2) & (r.zero_3 == 0) & (r.zero_14 == 0)
+    if memory::read16(t, a + 12) != 0 {
+        return false;
+    }
+    if memory::read16(t, a + 10) == 0 {
+        return false;
+    }
+    let mode = memory::read16(t, a + 2);
+    if mode == 0 {
+        return memory::read32(t, a + 4) == 0;
+    }
+    if memory::read16(t, a + 4) == 0 {
+        return false;
+    }
+    if memory::read16(t, a + 6) == 0 {
+        return false;
+    }
+    if mode == 2 {
+        return true;
+    }
+    if mode != 1 {
+        return false;
+    }
+    memory::read16(t, a + 8) == 0
 }
 
-fn send_ipdu(r: IpduRecord) -> bool
-    ensures { λ b. ⌜ b ≡ sendIpdu r ⌝ }
+// Mode, period, offset and minimum delay lie in the eight bytes from byte 2 on.
+fn receive_ipdu(t: &[u8], a: usize) -> bool
+    requires { ⌜ (a + 16 ≤ length (now t)) × Begun (ipduRecordAt a (now t)) receiving ⌝ }
+    ensures { λ b. ⌜ b ≡ ipduRight (ipduRecordAt a (now (t .entry))) ⌝ }
 {
-    (1 <= r.deadline)
-        & (r.first_deadline == 0)
-        & ((r.mode == 0) & (r.period == 0) & (r.offset == 0)
-            | (1 <= r.mode) & (1 <= r.period) & (1 <= r.offset))
-        & (!(r.mode == 1) | (r.minimum_delay == 0))
-}
-
-fn receive_ipdu(r: IpduRecord) -> bool
-    ensures { λ b. ⌜ b ≡ receiveIpdu r ⌝ }
-{
-    (r.mode == 0)
-        & (r.period == 0)
-        & (r.offset == 0)
-        & (r.minimum_delay == 0)
-        & ((r.first_deadline == 0) | (1 <= r.deadline))
+    if memory::read64(t, a + 2) != 0 {
+        return false;
+    }
+    if memory::read16(t, a + 12) == 0 {
+        return true;
+    }
+    memory::read16(t, a + 10) != 0
 }
 
 // The byte order that byte 5 of an object record stands for.
@@ -100,65 +130,147 @@ pub fn order_of(order: u32) -> Order
     }
 }
 
-// Whether an object record is right by itself, given what it refers to.
-pub fn object_right(r: ObjectRecord, x: References) -> bool
-    ensures { λ b. ⌜ b ≡ objectRight r x ⌝ }
+// Whether an object record is right by itself, in a table whose I-PDU records are right.
+pub fn object_right(t: &[u8], c: Counts, a: usize) -> bool
+    requires { ⌜ Shape (now t) c ⌝ }
+    requires { ⌜ IpdusRight (now t) c ⌝ }
+    requires { ⌜ a + 32 ≤ length (now t) ⌝ }
+    ensures { λ b. ⌜ b ≡ objectRight (objectRecordAt a (now (t .entry))) (references (now (t .entry)) c (objectRecordAt a (now (t .entry)))) ⌝ }
 {
-    if !bytes_right(r) {
+    if memory::read64(t, a + 24) != 0 {
         return false;
     }
-    if !kind_right(r) {
+    if !filter_right(t, a) {
         return false;
     }
-    if !place_right(r, x) {
+    let k = memory::read8(t, a + 1);
+    let n = c.ipdus;
+    if k < n {
+        return within_ipdu(t, c, a, k);
+    }
+    without_ipdu(t, c, a)
+}
+
+// The filter's number, with the three bytes above it, and its constants.
+fn filter_right(t: &[u8], a: usize) -> bool
+    requires { ⌜ a + 32 ≤ length (now t) ⌝ }
+    ensures { λ b. ⌜ b ≡ filterField (objectRecordAt a (now (t .entry))) ⌝ }
+{
+    let number = memory::read32(t, a + 8);
+    if memory::read64(t, a + 16) == 0 {
+        return number <= 13;
+    }
+    filter::filter_right(number, memory::read32(t, a + 16), memory::read32(t, a + 20))
+}
+
+// An object of I-PDU k.
+fn within_ipdu(t: &[u8], c: Counts, a: usize, k: u32) -> bool
+    requires { ⌜ Shape (now t) c ⌝ }
+    requires { ⌜ IpdusRight (now t) c ⌝ }
+    requires { ⌜ (a + 32 ≤ length (now t)) × Filtered (objectRecordAt a (now t)) × (k ≡ objectRecordAt a (now t) .ipdu) × (k < c .ipdus) ⌝ }
+    ensures { λ b. ⌜ b ≡ objectRight (objectRecordAt a (now (t .entry))) (references (now (t .entry)) c (objectRecordAt a (now (t .entry)))) ⌝ }
+{
+    let p = HEADER_SIZE + IPDU_SIZE * (k as usize);
+    let kind = memory::read8(t, a);
+    if memory::read8(t, p) != kind {
         return false;
     }
-    let filter = filter::filter_right(r.filter, r.first, r.second);
-    ((r.sender == NONE) | (x.sender_kind == SENDING)) & filter
-}
-
-fn bytes_right(r: ObjectRecord) -> bool
-    ensures { λ b. ⌜ b ≡ bytesRight r ⌝ }
-{
-    (1 <= r.size)
-        & (r.size <= 32)
-        & (r.order <= 1)
-        & (r.transfer <= 1)
-        & (r.depth <= 16)
-        & (r.zero_9 == 0)
-        & (r.zero_10 == 0)
-        & (r.zero_24 == 0)
-}
-
-fn kind_right(r: ObjectRecord) -> bool
-    ensures { λ b. ⌜ b ≡ (sendObject r || receiveObject r) ⌝ }
-{
-    if r.kind == SENDING {
-        return (r.sender == NONE) & (r.depth == 0);
+    if memory::read8(t, a + 2) != NONE {
+        return false;
     }
-    (r.kind == RECEIVING) & (r.transfer == 0) & ((r.ipdu == NONE) | (r.sender == NONE))
+    if !place_right(t, a, memory::read8(t, p + 1)) {
+        return false;
+    }
+    use_right(t, a, kind)
 }
 
-fn place_right(r: ObjectRecord, x: References) -> bool
-    ensures { λ b. ⌜ b ≡ (withoutIpdu r || withinIpdu r x) ⌝ }
+// The bits of an object in an I-PDU of so many bytes.
+fn place_right(t: &[u8], a: usize, bytes: u32) -> bool
+    requires { ⌜ (a + 32 ≤ length (now t)) × (bytes ≤ 8) ⌝ }
+    ensures { λ b. ⌜ b ≡ placeField (objectRecordAt a (now (t .entry))) bytes ⌝ }
 {
-    if r.ipdu == NONE {
-        if (r.start == 0) & (r.size == 32) & (r.order == 0) {
-            return true;
+    let size = memory::read8(t, a + 4);
+    if size < 1 {
+        return false;
+    }
+    if 32 < size {
+        return false;
+    }
+    let start = memory::read8(t, a + 3);
+    let order = memory::read8(t, a + 5);
+    let end = 8 * bytes;
+    if order == 0 {
+        return start + size <= end;
+    }
+    if order != 1 {
+        return false;
+    }
+    if end <= start {
+        return false;
+    }
+    bits::position(Order::Big, start) + size <= 64
+}
+
+// The transfer property of a send object, which has no queue, and the queue of a receive object, which has no such property.
+fn use_right(t: &[u8], a: usize, kind: u32) -> bool
+    requires { ⌜ (a + 32 ≤ length (now t)) × (1 ≤ kind) × (kind ≤ 2) ⌝ }
+    ensures { λ b. ⌜ b ≡ useFields (objectRecordAt a (now (t .entry))) kind ⌝ }
+{
+    let both = memory::read16(t, a + 6);
+    if both == 0 {
+        return true;
+    }
+    if kind == SENDING {
+        return both <= 1;
+    }
+    (memory::read8(t, a + 6) == 0) & (memory::read8(t, a + 7) <= 16)
+}
+
+// An object outside any I-PDU.
+fn without_ipdu(t: &[u8], c: Counts, a: usize) -> bool
+    requires { ⌜ Shape (now t) c ⌝ }
+    requires { ⌜ (a + 32 ≤ length (now t)) × Filtered (objectRecordAt a (now t)) × (c .ipdus ≤ objectRecordAt a (now t) .ipdu) ⌝ }
+    ensures { λ b. ⌜ b ≡ objectRight (objectRecordAt a (now (t .entry))) (references (now (t .entry)) c (objectRecordAt a (now (t .entry)))) ⌝ }
+{
+    if memory::read8(t, a + 1) != NONE {
+        return false;
+    }
+    if memory::read8(t, a + 3) != 0 {
+        return false;
+    }
+    if memory::read16(t, a + 4) != 32 {
+        return false;
+    }
+    let kind = memory::read8(t, a);
+    let sender = memory::read8(t, a + 2);
+    if kind == SENDING {
+        if sender != NONE {
+            return false;
         }
-        return within_ipdu(r, x);
+        return use_right(t, a, kind);
     }
-    within_ipdu(r, x)
+    if kind != RECEIVING {
+        return false;
+    }
+    if !use_right(t, a, kind) {
+        return false;
+    }
+    sender_right(t, c, sender)
 }
 
-fn within_ipdu(r: ObjectRecord, x: References) -> bool
-    ensures { λ b. ⌜ b ≡ withinIpdu r x ⌝ }
+// A sender is none, or one of the table's send objects.
+fn sender_right(t: &[u8], c: Counts, sender: u32) -> bool
+    requires { ⌜ Shape (now t) c ⌝ }
+    ensures { λ b. ⌜ b ≡ (eqb sender absent || eqb (pick (ltb sender (c .objects)) (objectRecord (now (t .entry)) (c .ipdus) sender .kind) 0) sending) ⌝ }
 {
-    let room = bits::has_room(
-        order_of(r.order),
-        r.start,
-        BitSize(r.size),
-        ByteLength(x.length),
-    );
-    (x.direction == r.kind) & room
+    if sender == NONE {
+        return true;
+    }
+    let m = c.objects;
+    if m <= sender {
+        return false;
+    }
+    let n = c.ipdus as usize;
+    let i = sender as usize;
+    memory::read8(t, HEADER_SIZE + IPDU_SIZE * n + OBJECT_SIZE * i) == SENDING
 }

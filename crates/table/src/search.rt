@@ -1,17 +1,16 @@
 // The check that names the first wrong record.
 use super::Counts;
+use super::HEADER_SIZE;
+use super::IPDU_SIZE;
 use super::IpduNumber;
 use super::MOST_QUEUED;
+use super::OBJECT_SIZE;
 use super::ObjectNumber;
-use super::ObjectRecord;
-use super::References;
 use super::Verdict;
 ghost use mathlib.Core.Path.{_≡_};
-ghost use Rattle.memory.specs.Search.{pick, least};
-ghost use lib.Dec.{ltb};
-ghost use Rattle.table.specs.Records.{objectRecord};
-ghost use Rattle.table.specs.Rules.{references};
+ghost use Rattle.memory.specs.Search.{least};
 ghost use Rattle.table.specs.Check.{Shape, wrongIpdu, wrongObject, check, numberOf, placeOf};
+ghost use Rattle.table.specs.Inner.{IpdusRight};
 
 // Names the first wrong record of a slice of any length, or accepts it with its counts.
 pub fn check(t: &[u8]) -> Verdict
@@ -64,7 +63,7 @@ fn first_wrong_ipdu(t: &[u8], c: Counts) -> u32
     let n = c.ipdus;
     let mut k = 0;
     while k < n {
-        if !super::ipdu_right(super::ipdu_record(t, IpduNumber(k))) {
+        if !super::rules::ipdu_right(t, HEADER_SIZE + IPDU_SIZE * (k as usize)) {
             return k;
         }
         k += 1;
@@ -72,61 +71,29 @@ fn first_wrong_ipdu(t: &[u8], c: Counts) -> u32
     k
 }
 
-// The lowest object that is wrong, by itself or in the sum of the depths, or the number of objects.
+// The lowest object that is wrong, by itself or in the sum of the depths, or the number of objects. The I-PDUs are right.
 fn first_wrong_object(t: &[u8], c: Counts) -> u32
     requires { ⌜ Shape (now t) c ⌝ }
+    requires { ⌜ IpdusRight (now t) c ⌝ }
     ensures { λ r. ⌜ r ≡ least (c .objects) (wrongObject (now (t .entry)) c) ⌝ }
 {
-    let n = c.ipdus;
+    let n = c.ipdus as usize;
     let m = c.objects;
     let mut depth = 0;
     let mut i = 0;
     while i < m {
-        let r = super::object_record(t, n, ObjectNumber(i));
-        if !super::object_right(r, references(t, c, r)) {
+        let a = HEADER_SIZE + IPDU_SIZE * n + OBJECT_SIZE * (i as usize);
+        if !super::rules::object_right(t, c, a) {
             return i;
         }
-        depth += r.depth;
-        if MOST_QUEUED < depth {
-            return i;
+        let d = memory::read8(t, a + 7);
+        if d != 0 {
+            depth += d;
+            if MOST_QUEUED < depth {
+                return i;
+            }
         }
         i += 1;
     }
     i
-}
-
-// What the record of an object refers to.
-fn references(t: &[u8], c: Counts, r: ObjectRecord) -> References
-    requires { ⌜ Shape (now t) c ⌝ }
-    ensures { λ x. ⌜ x ≡ references (now (t .entry)) c r ⌝ }
-{
-    let sender_kind = kind_of(t, c, r.sender);
-    let k = r.ipdu;
-    let n = c.ipdus;
-    if k < n {
-        let p = super::ipdu_record(t, IpduNumber(k));
-        return References {
-            direction: p.direction,
-            length: p.length,
-            sender_kind: sender_kind,
-        };
-    }
-    References {
-        direction: 0,
-        length: 0,
-        sender_kind: sender_kind,
-    }
-}
-
-// The kind of an object, or 0 where there is none of that number.
-fn kind_of(t: &[u8], c: Counts, number: u32) -> u32
-    requires { ⌜ Shape (now t) c ⌝ }
-    ensures { λ r. ⌜ r ≡ pick (ltb number (c .objects)) (objectRecord (now (t .entry)) (c .ipdus) number .kind) 0 ⌝ }
-{
-    let m = c.objects;
-    if number < m {
-        let r = super::object_record(t, c.ipdus, ObjectNumber(number));
-        return r.kind;
-    }
-    0
 }

@@ -1,17 +1,16 @@
--- `filter::filter_right`: with both constants zero the number alone decides (`number-decides`).
+-- `filter::filter_right`: its tests by number are those of the definition (`by-number`).
 -- Assumes nothing.
 use borrow.Author.Needs.{needs}
-use Rattle.filter.specs.Filters.{filterRight}
-use Rattle.filter.proofs.Laws.{number-decides}
+use borrow.Author.Tests.{ne-eqb}
+use Rattle.filter.proofs.Laws.{by-number}
 use Rattle.filter.proofs.filter_right.Statement.{statement}
 use Rattle.filter.proofs.filter_right.Tie as tie
 
 pub filter-right-spec : {M : Type 1} → statement M
-unfolding filterRight
 filter-right-spec =
     tie.close
     (tie.spec
-    (λ c. search (needs, number-decides))
-    (λ c κs. search needs)
-    (λ c κs. search needs)
-    (λ c. cc))
+    (λ c. rw (by-number, c .if1 .taken))
+    (λ c. rw (by-number, c .before .if1 .left, c .if2 .taken))
+    (λ c. rw (by-number, c .if3 .taken))
+    (λ c. rw (by-number, c .before .before .if1 .left, c .before .if2 .left, ne-eqb _ _ (c .if3 .left))))

@@ -1,8 +1,7 @@
--- `table::rules::place_right`: with no I-PDU the three other tests decide between the definition's two cases.
+-- `table::rules::place_right`: size, then the room under the order.
 -- Assumes nothing.
 use borrow.Author.Needs.{needs}
-use borrow.Author.Tests.{ne-eqb}
-use Rattle.table.proofs.Tests.{without-ipdu, within-alone}
+use Rattle.table.proofs.FieldTests.{no-size, size-past, no-order, little-room, outside, big-room, position-fits}
 use Rattle.table.proofs.rules.place_right.Statement.{statement}
 use Rattle.table.proofs.rules.place_right.Tie as tie
 
@@ -10,8 +9,18 @@ pub place-right-spec : {M : Type 1} → statement M
 place-right-spec =
     tie.close
     (tie.spec
-    (λ c. search (needs, without-ipdu))
+    (λ c. search needs) (λ c κs. search needs)
+    (λ c. search (needs, no-size))
+    (λ c. search (needs, size-past))
+    (λ c. search needs) (λ c κs. search needs)
+    (λ c. search needs) (λ c κs. search needs)
+    (λ c. search needs)
+    (λ c. search needs)
+    (λ c. search (needs, little-room))
+    (λ c. search (needs, no-order))
+    (λ c. search (needs, outside))
     (λ c κs. search needs)
-    (λ c. search (needs, within-alone))
-    (λ c κs. search needs)
-    (λ c. rw (ne-eqb _ _ (c .before .if1 .left)) (c .within-ipdu2 .ensures)))
+    (λ c.
+    let at-size = c .before .before .before .before .before .before in
+    record { fits = position-fits (c .position .ensures) (c .before .if5 .left) (at-size .before .before .before .before .pre .1) (at-size .if2 .left) })
+    (λ c. search (needs, big-room)))

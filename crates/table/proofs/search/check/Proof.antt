@@ -3,7 +3,7 @@
 use borrow.Author.Needs.{needs}
 use Rattle.memory.proofs.Tests.{tested-true, tested-false}
 use Rattle.table.specs.Check.{check}
-use Rattle.table.proofs.Verdicts.{header-long, counts-shape, names-ipdu, names-object, accepts}
+use Rattle.table.proofs.Verdicts.{header-long, counts-shape, none-found, names-ipdu, names-object, accepts}
 use Rattle.table.proofs.search.check.Statement.{statement}
 use Rattle.table.proofs.search.check.Tie as tie
 
@@ -17,6 +17,6 @@ check-spec =
     (λ c κs. search (needs, header-long, tested-true))
     (λ c κs. search (needs, counts-shape, tested-true))
     (λ c. search (needs, names-ipdu, tested-true))
-    (λ c κs. search (needs, counts-shape, tested-true))
+    (λ c κs. (search (needs, counts-shape, tested-true), search (needs, none-found)))
     (λ c. search (needs, names-object, tested-true))
     (λ c. search (needs, accepts, tested-true)))

@@ -23,7 +23,9 @@ first-wrong-ipdu-spec =
     Inv-loop
     μ-loop
     (λ c. (search needs, refl))
-    (λ c κs. search needs)
+    (λ c. search needs)
+    (λ c. search needs)
+    (λ c. search needs)
     (λ c κs. search needs)
     (λ c. search (needs, first-wrong))
     (λ c. search needs)

@@ -1,0 +1,28 @@
+-- `table::rules::without_ipdu`: the place of a whole value, then sender and use by the kind.
+-- Assumes nothing.
+use borrow.Author.Needs.{needs}
+use Rattle.table.proofs.ObjectReads.{size-read}
+use Rattle.table.proofs.ObjectTests.{another-ipdu, start-some, not-whole, sent-from-sender, sent-outside, no-kind, use-wrong, sender-decides}
+use Rattle.table.proofs.rules.without_ipdu.Statement.{statement}
+use Rattle.table.proofs.rules.without_ipdu.Tie as tie
+
+pub without-ipdu-spec : {M : Type 1} → statement M
+without-ipdu-spec =
+    tie.close
+    (tie.spec
+    (λ c. search needs) (λ c κs. search needs)
+    (λ c. search (needs, another-ipdu))
+    (λ c. search needs) (λ c κs. search needs)
+    (λ c. search (needs, start-some))
+    (λ c. search needs) (λ c κs. search needs)
+    (λ c. search (needs, not-whole, size-read))
+    (λ c κs. search needs)
+    (λ c. search needs) (λ c κs. search needs)
+    (λ c. search (needs, sent-from-sender))
+    (λ c κs. search needs)
+    (λ c. search (needs, sent-outside, size-read))
+    (λ c. search (needs, no-kind))
+    (λ c κs. search needs)
+    (λ c. search (needs, use-wrong))
+    (λ c κs. search needs)
+    (λ c. search (needs, sender-decides, size-read)))
