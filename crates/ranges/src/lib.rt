@@ -1,22 +1,31 @@
-// Whether every stored number is in its range, for a table that was accepted.
-use config::Direction;
-use config::Ipdu;
-use state::IpduState;
-use state::ObjectState;
+// Whether every stored number is in its range, for a table that was accepted. Numbers are read where they lie, each where a
+// range first asks for it.
+use state::IPDU_ROWS;
+use state::OBJECT_ROWS;
 use state::RUNNING;
 use table::Counts;
-use table::IpduNumber;
-use table::ObjectNumber;
-use table::ObjectRecord;
+use table::HEADER_SIZE;
+use table::IPDU_SIZE;
+use table::OBJECT_SIZE;
+use table::SENDING;
 ghost use mathlib.Core.Bool.{not};
 ghost use mathlib.Core.Path.{_≡_};
-ghost use Prim.Native.Nat.{_-_, _≤_, max};
+ghost use Prim.Native.Nat.{_+_, _-_, _≤_, _<_, max};
+ghost use lib.Dec.{leb};
 ghost use lib.ListN.{length};
 ghost use Rattle.memory.specs.Search.{anyBelow};
-ghost use Rattle.config.specs.declared.Direction.the-variants.{Send, Receive};
+ghost use Rattle.table.specs.Records.{mostIpdus, mostQueued, ipduRecord, objectRecord};
 ghost use Rattle.table.specs.Check.{Shape, Right};
-ghost use Rattle.state.specs.Layout.{memorySize};
-ghost use Rattle.state.specs.Ranges.{inRangeAs, ipduInRange, objectInRange, ipduOut, objectOut, inRange};
+ghost use Rattle.config.specs.Decode.{ipduOf};
+ghost use Rattle.state.specs.Layout.{memorySize, ipduState, objectState};
+ghost use Rattle.ranges.specs.Inner.{requestInRange, periodInRange, nothingSent, timerInRange, usedInRange};
+ghost use Rattle.state.specs.Ranges.{ipduInRange, objectInRange, ipduOut, objectOut, inRange};
+
+// Of the eight bytes from byte 8 of an object's row on: all bits but the four marks, the overflow flag and byte 13, which
+// nothing uses; and those of them that do not belong to the queue's place and count or to the occurrence.
+const EMPTY: u64 = 0xFFFF_00FF_FFFE_F0FF;
+
+const FIXED: u64 = 0xFFFF_0000_00FE_F000;
 
 // Whether working memory holds numbers that calls over this table may meet.
 pub fn in_range(t: &[u8], c: Counts, m: &[u8]) -> bool
@@ -24,10 +33,13 @@ pub fn in_range(t: &[u8], c: Counts, m: &[u8]) -> bool
     requires { ⌜ memorySize ≤ length (now m) ⌝ }
     ensures { λ r. ⌜ r ≡ inRange (now (t .entry)) c (now (m .entry)) ⌝ }
 {
-    let running = memory::read8(m, RUNNING) <= 1;
-    let ipdus = ipdus_in_range(t, c, m);
-    let objects = objects_in_range(t, c, m);
-    running & ipdus & objects
+    if 1 < memory::read8(m, RUNNING) {
+        return false;
+    }
+    if !ipdus_in_range(t, c, m) {
+        return false;
+    }
+    objects_in_range(t, c, m)
 }
 
 fn ipdus_in_range(t: &[u8], c: Counts, m: &[u8]) -> bool
@@ -38,10 +50,7 @@ fn ipdus_in_range(t: &[u8], c: Counts, m: &[u8]) -> bool
     let n = c.ipdus;
     let mut k = 0;
     while k < n {
-        if !ipdu_in_range(
-            config::decode_ipdu(t, IpduNumber(k)),
-            state::ipdu_state(m, IpduNumber(k)),
-        ) {
+        if !ipdu_in_range(t, c, m, k) {
             return false;
         }
         k += 1;
@@ -54,84 +63,167 @@ fn objects_in_range(t: &[u8], c: Counts, m: &[u8]) -> bool
     requires { ⌜ memorySize ≤ length (now m) ⌝ }
     ensures { λ r. ⌜ r ≡ not (anyBelow (c .objects) (objectOut (now (t .entry)) c (now (m .entry)))) ⌝ }
 {
-    let n = c.ipdus;
+    let n = c.ipdus as usize;
     let end = c.objects;
     let mut first = 0;
     let mut i = 0;
     while i < end {
-        let r = table::object_record(t, n, ObjectNumber(i));
-        if !object_in_range(r, first, state::object_state(m, ObjectNumber(i))) {
+        let a = HEADER_SIZE + IPDU_SIZE * n + OBJECT_SIZE * (i as usize);
+        let depth = memory::read8(t, a + 7);
+        if !object_in_range(t, c, m, i, depth, first) {
             return false;
         }
-        first += r.depth;
+        first += depth;
         i += 1;
     }
     true
 }
 
-fn ipdu_in_range(p: Ipdu, s: IpduState) -> bool
-    ensures { λ b. ⌜ b ≡ ipduInRange p s ⌝ }
+fn ipdu_in_range(t: &[u8], c: Counts, m: &[u8], k: u32) -> bool
+    requires { ⌜ Shape (now t) c ⌝ }
+    requires { ⌜ (memorySize ≤ length (now m)) × (k < c .ipdus) ⌝ }
+    ensures { λ b. ⌜ b ≡ ipduInRange (ipduOf (ipduRecord (now (t .entry)) k)) (ipduState (now (m .entry)) k) ⌝ }
 {
-    let direction = p.direction;
-    match direction {
-        Direction::Send => send_in_range(p, s),
-        Direction::Receive => receive_in_range(p, s),
+    let i = k as usize;
+    if memory::read8(t, HEADER_SIZE + IPDU_SIZE * i) == SENDING {
+        if !request_in_range(t, c, m, k) {
+            return false;
+        }
+        return period_in_range(t, c, m, k);
     }
-}
-
-fn send_in_range(p: Ipdu, s: IpduState) -> bool
-    ensures { λ b. ⌜ b ≡ inRangeAs Send p s ⌝ }
-{
-    let longest = larger(p.period, p.offset);
-    (s.requested <= 1)
-        & (s.wanted <= 1)
-        & (s.running <= 1)
-        & (s.running <= longest)
-        & (s.delay <= p.minimum_delay)
-        & (s.deadline <= p.deadline)
-        & (s.countdown <= longest)
-        & (s.timer == 0)
-}
-
-fn receive_in_range(p: Ipdu, s: IpduState) -> bool
-    ensures { λ b. ⌜ b ≡ inRangeAs Receive p s ⌝ }
-{
-    let longest = larger(p.first_deadline, p.deadline);
-    (s.requested == 0)
-        & (s.wanted == 0)
-        & (s.running == 0)
-        & (s.delay == 0)
-        & (s.deadline == 0)
-        & (s.countdown == 0)
-        & (s.timer <= longest)
-}
-
-fn object_in_range(r: ObjectRecord, first: u32, s: ObjectState) -> bool
-    ensures { λ b. ⌜ b ≡ objectInRange r first s ⌝ }
-{
-    let last = one_less(r.depth);
-    let others = (s.marks <= 15)
-        & (s.overflow <= 1)
-        & (s.count <= r.depth)
-        & (s.head <= last)
-        & (s.queue == first);
-    if !others {
+    if !nothing_sent(m, k) {
         return false;
     }
-    filter::count_in_range(r.filter, r.first, r.second, s.occurrence)
+    timer_in_range(t, c, m, k)
+}
+
+// Of a send I-PDU: the flags of a request, the delay, the deadline, and no timer.
+fn request_in_range(t: &[u8], c: Counts, m: &[u8], k: u32) -> bool
+    requires { ⌜ Shape (now t) c ⌝ }
+    requires { ⌜ (memorySize ≤ length (now m)) × (k < c .ipdus) ⌝ }
+    ensures { λ b. ⌜ b ≡ requestInRange (ipduOf (ipduRecord (now (t .entry)) k)) (ipduState (now (m .entry)) k) ⌝ }
+{
+    let i = k as usize;
+    let a = HEADER_SIZE + IPDU_SIZE * i;
+    let row = IPDU_ROWS + 16 * i;
+    if 1 < memory::read8(m, row) {
+        return false;
+    }
+    if 1 < memory::read8(m, row + 1) {
+        return false;
+    }
+    if memory::read16(t, a + 8) < memory::read16(m, row + 4) {
+        return false;
+    }
+    if memory::read16(t, a + 10) < memory::read16(m, row + 6) {
+        return false;
+    }
+    memory::read16(m, row + 10) == 0
+}
+
+// Of a send I-PDU: the period.
+fn period_in_range(t: &[u8], c: Counts, m: &[u8], k: u32) -> bool
+    requires { ⌜ Shape (now t) c ⌝ }
+    requires { ⌜ (memorySize ≤ length (now m)) × (k < c .ipdus) ⌝ }
+    ensures { λ b. ⌜ b ≡ periodInRange (ipduOf (ipduRecord (now (t .entry)) k)) (ipduState (now (m .entry)) k) ⌝ }
+{
+    let i = k as usize;
+    let a = HEADER_SIZE + IPDU_SIZE * i;
+    let row = IPDU_ROWS + 16 * i;
+    let running = memory::read8(m, row + 2);
+    let countdown = memory::read16(m, row + 8);
+    if (running == 0) & (countdown == 0) {
+        return true;
+    }
+    let longest = larger(memory::read16(t, a + 4), memory::read16(t, a + 6));
+    (running <= 1) & (running <= longest) & (countdown <= longest)
+}
+
+// Of a receive I-PDU: all that a send I-PDU has is 0.
+fn nothing_sent(m: &[u8], k: u32) -> bool
+    requires { ⌜ (memorySize ≤ length (now m)) × (k < mostIpdus) ⌝ }
+    ensures { λ b. ⌜ b ≡ nothingSent (ipduState (now (m .entry)) k) ⌝ }
+{
+    let row = IPDU_ROWS + 16 * (k as usize);
+    if memory::read16(m, row) != 0 {
+        return false;
+    }
+    if memory::read8(m, row + 2) != 0 {
+        return false;
+    }
+    if memory::read32(m, row + 4) != 0 {
+        return false;
+    }
+    memory::read16(m, row + 8) == 0
+}
+
+// Of a receive I-PDU: the timer.
+fn timer_in_range(t: &[u8], c: Counts, m: &[u8], k: u32) -> bool
+    requires { ⌜ Shape (now t) c ⌝ }
+    requires { ⌜ (memorySize ≤ length (now m)) × (k < c .ipdus) ⌝ }
+    ensures { λ b. ⌜ b ≡ timerInRange (ipduOf (ipduRecord (now (t .entry)) k)) (ipduState (now (m .entry)) k) ⌝ }
+{
+    let i = k as usize;
+    let a = HEADER_SIZE + IPDU_SIZE * i;
+    let timer = memory::read16(m, IPDU_ROWS + 16 * i + 10);
+    if timer <= memory::read16(t, a + 10) {
+        return true;
+    }
+    timer <= memory::read16(t, a + 12)
+}
+
+// One comparison decides where the queue is empty at its first place and the occurrence is 0.
+fn object_in_range(t: &[u8], c: Counts, m: &[u8], i: u32, depth: u32, first: u32) -> bool
+    requires { ⌜ Shape (now t) c ⌝ }
+    requires { ⌜ (memorySize ≤ length (now m)) × (i < c .objects) × (depth ≡ objectRecord (now t) (c .ipdus) i .depth) × (first ≤ mostQueued) ⌝ }
+    ensures { λ b. ⌜ b ≡ objectInRange (objectRecord (now (t .entry)) (c .ipdus) i) first (objectState (now (m .entry)) i) ⌝ }
+{
+    let x = memory::read64(m, OBJECT_ROWS + 16 * (i as usize) + 8);
+    let begins = 0x0001_0000_0000_0000 * (first as u64);
+    let used = x & EMPTY;
+    if used == begins {
+        return true;
+    }
+    let fixed = x & FIXED;
+    if fixed != begins {
+        return false;
+    }
+    used_in_range(t, c, m, i, depth)
+}
+
+// The queue's place and count, and the occurrence.
+fn used_in_range(t: &[u8], c: Counts, m: &[u8], i: u32, depth: u32) -> bool
+    requires { ⌜ Shape (now t) c ⌝ }
+    requires { ⌜ (memorySize ≤ length (now m)) × (i < c .objects) × (depth ≡ objectRecord (now t) (c .ipdus) i .depth) ⌝ }
+    ensures { λ b. ⌜ b ≡ usedInRange (objectRecord (now (t .entry)) (c .ipdus) i) (objectState (now (m .entry)) i) ⌝ }
+{
+    let row = OBJECT_ROWS + 16 * (i as usize);
+    if depth < memory::read8(m, row + 12) {
+        return false;
+    }
+    if !head_in_range(depth, memory::read8(m, row + 11)) {
+        return false;
+    }
+    let a = HEADER_SIZE + IPDU_SIZE * (c.ipdus as usize) + OBJECT_SIZE * (i as usize);
+    filter::count_in_range(
+        memory::read8(t, a + 8),
+        memory::read32(t, a + 16),
+        memory::read32(t, a + 20),
+        memory::read8(m, row + 8) as u8,
+    )
+}
+
+fn head_in_range(depth: u32, head: u32) -> bool
+    ensures { λ b. ⌜ b ≡ leb head (depth - 1) ⌝ }
+{
+    if head == 0 {
+        return true;
+    }
+    head < depth
 }
 
 fn larger(a: u32, b: u32) -> u32
     ensures { λ r. ⌜ r ≡ max a b ⌝ }
 {
     if a <= b { b } else { a }
-}
-
-fn one_less(n: u32) -> u32
-    ensures { λ r. ⌜ r ≡ n - 1 ⌝ }
-{
-    if n == 0 {
-        return 0;
-    }
-    n - 1
 }

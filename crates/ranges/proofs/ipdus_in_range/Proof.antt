@@ -1,4 +1,4 @@
--- `state::ranges::ipdus_in_range`: no row passed is out of range, and the loop ends at the first that is.
+-- `ranges::ipdus_in_range`: no row passed is out of range, and the loop ends at the first that is.
 -- Assumes nothing.
 use mathlib.Core.Bool.{false}
 use mathlib.Core.Path.{_≡_, refl}
@@ -11,10 +11,10 @@ use Rattle.ranges.proofs.ipdus_in_range.Statement.{statement}
 use Rattle.ranges.proofs.ipdus_in_range.Tie as tie
 
 abbrev Inv-loop : tie.InvT-loop
-Inv-loop t m n k₀ k = (k ≤ n) × (anyBelow k (ipduOut t m) ≡ false)
+Inv-loop t c m n k₀ k = (k ≤ n) × (anyBelow k (ipduOut t m) ≡ false)
 
 abbrev μ-loop : tie.MeasureT-loop
-μ-loop t m n k₀ k = n - k
+μ-loop t c m n k₀ k = n - k
 
 pub ipdus-in-range-spec : {M : Type 1} → statement M
 ipdus-in-range-spec =
@@ -23,8 +23,6 @@ ipdus-in-range-spec =
     Inv-loop
     μ-loop
     (λ c. (search needs, refl))
-    (λ c κs. search needs)
-    (λ c κs. search needs)
     (λ c κs. search needs)
     (λ c. search (needs, ipdu-out))
     (λ c. search needs)

@@ -1,0 +1,4 @@
+pub mod RowReads
+pub mod IpduRanges
+pub mod ObjectRanges
+pub mod ObjectWords
