@@ -3,7 +3,8 @@
 use mathlib.Core.Bool.{Bool, true, false, not, _&&_}
 use mathlib.Core.List.{List}
 use mathlib.Core.Path.{_≡_, sym, _∙_}
-use Prim.Native.Nat.{ℕ, _-_, _≤_, _<_}
+use Prim.Native.Nat.{ℕ, _+_, _-_, _*_, _/_, _%_, _^_, _≤_, _<_}
+use native.Mathlib.Numerals.{add-one}
 use native.Mathlib.Omega.{arith}
 use borrow.Author.Tests.{le-leb, lt-leb, not-true, not-false}
 use lib.Dec.{leb}
@@ -11,11 +12,11 @@ use Rattle.memory.proofs.Tests.{and-false}
 use Rattle.filter.specs.Filters.{greatestCount, filterOf}
 use Rattle.table.specs.declared.Counts.{Counts}
 use Rattle.table.specs.declared.ObjectRecord.{ObjectRecord}
-use Rattle.table.specs.Records.{mostQueued}
+use Rattle.table.specs.Records.{objectRecord}
 use Rattle.table.specs.Check.{depths, Right}
 use Rattle.state.specs.declared.ObjectState.{ObjectState}
 use Rattle.state.proofs.Turns.{depth-sum}
-use Rattle.ranges.specs.Inner.{usedInRange}
+use Rattle.ranges.specs.Inner.{queueUnit, usedInRange}
 
 module _ (r : ObjectRecord) (s : ObjectState) {d : ℕ} (depth : d ≡ r .depth) {n : ℕ} (count : n ≡ s .count) where
   pub count-past : d < n → false ≡ usedInRange r s
@@ -36,6 +37,17 @@ module _ (r : ObjectRecord) (s : ObjectState) {d : ℕ} (depth : d ≡ r .depth)
     occurrence-decides low in-place occurrence filter first second e =
         rw (own, not-false b in-place, le-leb (s .count) (r .depth) (omega arith)) (rw (occurrence, filter, first, second) at e)
 
--- where the queues of the objects passed end
-pub few-queued : (t : List ℕ) (c : Counts) → Right t c → {i first : ℕ} → i < c .objects → first ≡ depths t c i → first ≤ mostQueued
-few-queued t c right {i} h e = omega (arith, depth-sum t c right i h)
+-- ---- where the queues of the objects passed end, in units
+
+pub whole-units : {q : ℕ} (n : ℕ) → q ≡ queueUnit * n → q % queueUnit ≡ 0
+whole-units n e = omega arith
+
+pub in-units : {q : ℕ} (n : ℕ) → q ≡ queueUnit * n → q / queueUnit ≡ n
+in-units n e = omega arith
+
+module _ (t : List ℕ) (c : Counts) (i : ℕ) {q : ℕ} (sum : q ≡ queueUnit * depths t c i) {d : ℕ} (here : d ≡ objectRecord t (c .ipdus) i .depth) where
+  pub next-queue : q + queueUnit * d ≡ queueUnit * depths t c (i + 1)
+  next-queue = rw (add-one i) (omega (arith, sum, here))
+
+  pub queue-fits : Right t c → i < c .objects → q + queueUnit * d < 2 ^ 64
+  queue-fits right h = omega (arith, sum, here, depth-sum t c right i h)

@@ -4,7 +4,7 @@ use mathlib.Core.Bool.{Bool, true, false, _&&_}
 use mathlib.Core.List.{List, [], _∷_}
 use mathlib.Core.Logic.{⊎-elim}
 use mathlib.Core.Path.{_≡_, refl, sym, ap, _∙_}
-use Prim.Native.Nat.{ℕ, _+_, _-_, _*_, _/_, _≤_, _<_, zero-le}
+use Prim.Native.Nat.{ℕ, _+_, _-_, _*_, _/_, _%_, _≤_, _<_, zero-le}
 use native.Mathlib.Omega.{arith}
 use borrow.Author.Tests.{eqb-true, leb-true, eq-eqb, le-leb}
 use lib.Bits.{bitAnd, and-zero-r, and-mask, and-high}
@@ -15,11 +15,10 @@ use Rattle.memory.proofs.Parts.{number-lt}
 use Rattle.memory.proofs.Tests.{each-true, true-or-false, lt-or-le}
 use Rattle.filter.specs.Filters.{greatestCount}
 use Rattle.table.specs.declared.ObjectRecord.{ObjectRecord}
-use Rattle.table.specs.Records.{mostQueued}
 use Rattle.table.specs.Rules.{recordFilter}
 use Rattle.state.specs.Layout.{objectRow, objectState}
 use Rattle.state.specs.Ranges.{objectInRange}
-use Rattle.ranges.specs.Inner.{usedInRange}
+use Rattle.ranges.specs.Inner.{queueUnit, usedInRange}
 
 and-true : (a : Bool) → (a && true) ≡ a
 and-true true = refl
@@ -119,16 +118,19 @@ module _ (m : List ℕ) (bs : Bytes m) (i : ℕ) {x : ℕ} (read : x ≡ numberA
       )
       (omega arith)
 
-  module _ (r : ObjectRecord) {first : ℕ} (few : first ≤ mostQueued) where
+  module _ (r : ObjectRecord) {q : ℕ} (units : q % queueUnit ≡ 0) where
+    same : q ≡ queueUnit * (q / queueUnit)
+    same = omega arith
+
     -- nothing queued, at the queue's first place, and an occurrence of 0
-    pub empty-in-range : bitAnd x 18446463698244399359 ≡ 281474976710656 * first → true ≡ objectInRange r first (objectState m i)
+    pub empty-in-range : bitAnd x 18446463698244399359 ≡ q → true ≡ objectInRange r (q / queueUnit) (objectState m i)
     unfolding objectInRange objectState
-    empty-in-range same =
+    empty-in-range e =
         let halves =
         split-48
         (numberAt 1 (objectRow i + 8) m + 4096 * (numberAt 1 (objectRow i + 9) m / 16) + 131072 * (numberAt 1 (objectRow i + 10) m / 2)
         + 16777216 * numberAt 1 (objectRow i + 11) m + 4294967296 * numberAt 1 (objectRow i + 12) m)
-        (numberAt 2 (objectRow i + 14) m) first (omega (arith, byte 8, byte 9, byte 10, byte 11, byte 12)) (sym used ∙ same) in
+        (numberAt 2 (objectRow i + 14) m) (q / queueUnit) (omega (arith, byte 8, byte 9, byte 10, byte 11, byte 12)) (sym used ∙ e ∙ same) in
         let occurrence : numberAt 1 (objectRow i + 8) m ≡ 0 = omega (arith, halves .0) in
         let marks : numberAt 1 (objectRow i + 9) m ≤ 15 = omega (arith, halves .0) in
         let overflow : numberAt 1 (objectRow i + 10) m ≤ 1 = omega (arith, halves .0) in
@@ -141,37 +143,37 @@ module _ (m : List ℕ) (bs : Bytes m) (i : ℕ) {x : ℕ} (read : x ≡ numberA
           count,
           le-leb 0 (r .depth) zero-le,
           le-leb 0 (r .depth - 1) zero-le,
-          eq-eqb (numberAt 2 (objectRow i + 14) m) first (halves .1),
+          eq-eqb (numberAt 2 (objectRow i + 14) m) (q / queueUnit) (halves .1),
           occurrence,
           le-leb 0 (greatestCount (recordFilter r)) zero-le,
         )
 
     -- marks, overflow and queue, which are as they must be or not whatever the depth and the filter
-    pub fixed-out : (bitAnd x 18446462598749548544 ≡ 281474976710656 * first → ⊥) → false ≡ objectInRange r first (objectState m i)
+    pub fixed-out : (bitAnd x 18446462598749548544 ≡ q → ⊥) → false ≡ objectInRange r (q / queueUnit) (objectState m i)
     unfolding objectInRange
     fixed-out other =
         ⊎-elim
-        (λ (e : objectInRange r first (objectState m i) ≡ true).
+        (λ (e : objectInRange r (q / queueUnit) (objectState m i) ≡ true).
         let all =
         each-true (leb (objectState m i .marks) 15)
-        (leb (objectState m i .overflow) 1 ∷ leb (objectState m i .count) (r .depth) ∷ leb (objectState m i .head) (r .depth - 1) ∷ eqb (objectState m i .queue) first
+        (leb (objectState m i .overflow) 1 ∷ leb (objectState m i .count) (r .depth) ∷ leb (objectState m i .head) (r .depth - 1) ∷ eqb (objectState m i .queue) (q / queueUnit)
         ∷ leb (objectState m i .occurrence) (greatestCount (recordFilter r)) ∷ []) e in
-        absurd (other (omega (arith, fixed, leb-true (objectState m i .marks) 15 (all .0), leb-true (objectState m i .overflow) 1 (all .1 .0), eqb-true (objectState m i .queue) first (all .1 .1 .1 .1 .0)))))
+        absurd (other (omega (arith, same, fixed, leb-true (objectState m i .marks) 15 (all .0), leb-true (objectState m i .overflow) 1 (all .1 .0), eqb-true (objectState m i .queue) (q / queueUnit) (all .1 .1 .1 .1 .0)))))
         sym
-        (true-or-false (objectInRange r first (objectState m i)))
+        (true-or-false (objectInRange r (q / queueUnit) (objectState m i)))
 
-    pub used-decides : {b : Bool} → bitAnd x 18446462598749548544 ≡ 281474976710656 * first → b ≡ usedInRange r (objectState m i)
-        → b ≡ objectInRange r first (objectState m i)
+    pub used-decides : {b : Bool} → bitAnd x 18446462598749548544 ≡ q → b ≡ usedInRange r (objectState m i)
+        → b ≡ objectInRange r (q / queueUnit) (objectState m i)
     unfolding objectInRange usedInRange objectState
-    used-decides same e =
+    used-decides fits e =
         let halves =
-        split-48 (4096 * (numberAt 1 (objectRow i + 9) m / 16) + 131072 * (numberAt 1 (objectRow i + 10) m / 2)) (numberAt 2 (objectRow i + 14) m) first
-        (omega (arith, byte 9, byte 10)) (sym fixed ∙ same) in
+        split-48 (4096 * (numberAt 1 (objectRow i + 9) m / 16) + 131072 * (numberAt 1 (objectRow i + 10) m / 2)) (numberAt 2 (objectRow i + 14) m) (q / queueUnit)
+        (omega (arith, byte 9, byte 10)) (sym fixed ∙ fits ∙ same) in
         let marks : numberAt 1 (objectRow i + 9) m ≤ 15 = omega (arith, halves .0) in
         let overflow : numberAt 1 (objectRow i + 10) m ≤ 1 = omega (arith, halves .0) in
         rw (
           le-leb (numberAt 1 (objectRow i + 9) m) 15 marks,
           le-leb (numberAt 1 (objectRow i + 10) m) 1 overflow,
-          eq-eqb (numberAt 2 (objectRow i + 14) m) first (halves .1),
+          eq-eqb (numberAt 2 (objectRow i + 14) m) (q / queueUnit) (halves .1),
           and-true (leb (numberAt 1 (objectRow i + 12) m) (r .depth) && leb (numberAt 1 (objectRow i + 11) m) (r .depth - 1)),
         ) e

@@ -1,6 +1,6 @@
 -- Parts of the ranges, as the tests hand them on to each other. Nothing of it is in what a range means. Assumes nothing.
 use mathlib.Core.Bool.{Bool, _&&_}
-use Prim.Native.Nat.{_-_, max}
+use Prim.Native.Nat.{ℕ, _-_, max}
 use lib.Dec.{leb, eqb}
 use Rattle.filter.specs.Filters.{greatestCount}
 use Rattle.table.specs.declared.ObjectRecord.{ObjectRecord}
@@ -25,6 +25,10 @@ nothingSent s =
 
 unfoldable pub timerInRange : Ipdu → IpduState → Bool
 timerInRange p s = leb (s .timer) (max (p .«first_deadline») (p .deadline))
+
+-- one place of the queues in the word of bytes 8 to 15 of a row, whose upper two bytes say where a queue begins
+abbrev pub queueUnit : ℕ
+queueUnit = 281474976710656
 
 -- of an object: what its depth and its filter decide
 unfoldable pub usedInRange : ObjectRecord → ObjectState → Bool

@@ -10,15 +10,15 @@ use table::OBJECT_SIZE;
 use table::SENDING;
 ghost use mathlib.Core.Bool.{not};
 ghost use mathlib.Core.Path.{_≡_};
-ghost use Prim.Native.Nat.{_+_, _-_, _≤_, _<_, max};
+ghost use Prim.Native.Nat.{_-_, _/_, _%_, _≤_, _<_, max};
 ghost use lib.Dec.{leb};
 ghost use lib.ListN.{length};
 ghost use Rattle.memory.specs.Search.{anyBelow};
-ghost use Rattle.table.specs.Records.{mostIpdus, mostQueued, ipduRecord, objectRecord};
+ghost use Rattle.table.specs.Records.{mostIpdus, ipduRecord, objectRecord};
 ghost use Rattle.table.specs.Check.{Shape, Right};
 ghost use Rattle.config.specs.Decode.{ipduOf};
 ghost use Rattle.state.specs.Layout.{memorySize, ipduState, objectState};
-ghost use Rattle.ranges.specs.Inner.{requestInRange, periodInRange, nothingSent, timerInRange, usedInRange};
+ghost use Rattle.ranges.specs.Inner.{requestInRange, periodInRange, nothingSent, timerInRange, queueUnit, usedInRange};
 ghost use Rattle.state.specs.Ranges.{ipduInRange, objectInRange, ipduOut, objectOut, inRange};
 
 // Of the eight bytes from byte 8 of an object's row on: all bits but the four marks, the overflow flag and byte 13, which
@@ -26,6 +26,9 @@ ghost use Rattle.state.specs.Ranges.{ipduInRange, objectInRange, ipduOut, objec
 const EMPTY: u64 = 0xFFFF_00FF_FFFE_F0FF;
 
 const FIXED: u64 = 0xFFFF_0000_00FE_F000;
+
+// One place of the queues, as that word has it in its upper two bytes.
+const QUEUE_UNIT: u64 = 0x0001_0000_0000_0000;
 
 // Whether working memory holds numbers that calls over this table may meet.
 pub fn in_range(t: &[u8], c: Counts, m: &[u8]) -> bool
@@ -65,15 +68,15 @@ fn objects_in_range(t: &[u8], c: Counts, m: &[u8]) -> bool
 {
     let n = c.ipdus as usize;
     let end = c.objects;
-    let mut first = 0;
+    let mut queue = 0;
     let mut i = 0;
     while i < end {
         let a = HEADER_SIZE + IPDU_SIZE * n + OBJECT_SIZE * (i as usize);
         let depth = memory::read8(t, a + 7);
-        if !object_in_range(t, c, m, i, depth, first) {
+        if !object_in_range(t, c, m, i, depth, queue) {
             return false;
         }
-        first += depth;
+        queue += QUEUE_UNIT * (depth as u64);
         i += 1;
     }
     true
@@ -172,20 +175,20 @@ fn timer_in_range(t: &[u8], c: Counts, m: &[u8], k: u32) -> bool
     timer <= memory::read16(t, a + 12)
 }
 
-// One comparison decides where the queue is empty at its first place and the occurrence is 0.
-fn object_in_range(t: &[u8], c: Counts, m: &[u8], i: u32, depth: u32, first: u32) -> bool
+// `queue` is where its queue begins, as a word of the row has it. One comparison decides where the queue is empty at its first
+// place and the occurrence is 0.
+fn object_in_range(t: &[u8], c: Counts, m: &[u8], i: u32, depth: u32, queue: u64) -> bool
     requires { ⌜ Shape (now t) c ⌝ }
-    requires { ⌜ (memorySize ≤ length (now m)) × (i < c .objects) × (depth ≡ objectRecord (now t) (c .ipdus) i .depth) × (first ≤ mostQueued) ⌝ }
-    ensures { λ b. ⌜ b ≡ objectInRange (objectRecord (now (t .entry)) (c .ipdus) i) first (objectState (now (m .entry)) i) ⌝ }
+    requires { ⌜ (memorySize ≤ length (now m)) × (i < c .objects) × (depth ≡ objectRecord (now t) (c .ipdus) i .depth) × (queue % queueUnit ≡ 0) ⌝ }
+    ensures { λ b. ⌜ b ≡ objectInRange (objectRecord (now (t .entry)) (c .ipdus) i) (queue / queueUnit) (objectState (now (m .entry)) i) ⌝ }
 {
     let x = memory::read64(m, OBJECT_ROWS + 16 * (i as usize) + 8);
-    let begins = 0x0001_0000_0000_0000 * (first as u64);
     let used = x & EMPTY;
-    if used == begins {
+    if used == queue {
         return true;
     }
     let fixed = x & FIXED;
-    if fixed != begins {
+    if fixed != queue {
         return false;
     }
     used_in_range(t, c, m, i, depth)

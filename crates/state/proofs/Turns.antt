@@ -3,8 +3,7 @@
 use mathlib.Core.Bool.{Bool, true, false, not}
 use mathlib.Core.List.{List}
 use mathlib.Core.Path.{_≡_, sym, ap}
-use Prim.Native.Nat.{ℕ, suc, _+_, _^_, _≤_, _<_}
-use native.Mathlib.Numerals.{add-one}
+use Prim.Native.Nat.{ℕ, suc, _+_, _≤_, _<_}
 use native.Mathlib.Omega.{arith}
 use borrow.Author.Tests.{le-leb, lt-leb, not-true, not-false}
 use lib.Dec.{leb}
@@ -37,13 +36,6 @@ pub depth-sum : (t : List ℕ) (c : Counts) → Right t c → (i : ℕ) → i < 
 depth-sum t c r i h = omega (arith, r .depth, sum-more (c .objects) (suc i) (λ j. objectRecord t (c .ipdus) j .depth) h)
 
 module _ (t : List ℕ) (c : Counts) (i : ℕ) {first : ℕ} (sum : first ≡ depths t c i) where
-  module _ {d : ℕ} (here : d ≡ objectRecord t (c .ipdus) i .depth) where
-    pub next-first : first + d ≡ depths t c (i + 1)
-    next-first = rw (add-one, sum, here)
-
-    pub first-fits : Right t c → i < c .objects → first + d < 2 ^ 32
-    first-fits right h = rw (sum, here) (omega (arith, depth-sum t c right i h))
-
   module _ (m : List ℕ) {b : Bool} (test : b ≡ objectInRange (objectRecord t (c .ipdus) i) first (objectState m i)) where
     pub object-out : i < c .objects → not b ≡ true → false ≡ not (anyBelow (c .objects) (objectOut t c m))
     object-out h e = some-out (c .objects) (objectOut t c m) h (rw (← sum, ← test) e)

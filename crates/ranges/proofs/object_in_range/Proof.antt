@@ -14,7 +14,6 @@ object-in-range-spec =
     (λ c. search needs)
     (λ c. search needs)
     (λ c κs. search needs)
-    (λ c. search needs)
     (λ c.
     let at-known = c .before .before in
     let at-start = at-known .before .before in
