@@ -1,2 +1,3 @@
 pub mod Periods
 pub mod Ticks
+pub mod Inner

@@ -10,6 +10,7 @@ ghost use lib.ListN.{length};
 ghost use Rattle.table.specs.Check.{Shape};
 ghost use Rattle.state.specs.Layout.{memorySize};
 ghost use Rattle.timing.specs.Periods.{hasPeriod, periodSet, periodTurn, setPeriods};
+ghost use Rattle.timing.specs.Inner.{NextPeriod};
 
 // Starts the period of each I-PDU that has one, or halts it.
 pub fn set_periods(t: &[u8], c: Counts, m: &mut [u8], on: bool)
@@ -18,11 +19,30 @@ pub fn set_periods(t: &[u8], c: Counts, m: &mut [u8], on: bool)
     ensures { λ _. ⌜ now (m .exit) ≡ setPeriods on (now (t .entry)) c (now (m .entry)) ⌝ }
 {
     let n = c.ipdus;
-    let mut k = 0;
+    let mut k = next_with_period(t, c, 0);
     while k < n {
         period_turn(t, c, m, on, IpduNumber(k));
+        k = next_with_period(t, c, k + 1);
+    }
+}
+
+// The first I-PDU from `from` on that has a period, or the number of I-PDUs.
+fn next_with_period(t: &[u8], c: Counts, from: u32) -> u32
+    requires { ⌜ Shape (now t) c ⌝ }
+    requires { ⌜ from ≤ c .ipdus ⌝ }
+    ensures { λ r. ⌜ NextPeriod (now (t .entry)) from (c .ipdus) r ⌝ }
+{
+    let n = c.ipdus;
+    let mut k = from;
+    while k < n {
+        let p = config::decode_ipdu(t, IpduNumber(k));
+        let mode = p.mode;
+        if has_period(mode) {
+            return k;
+        }
         k += 1;
     }
+    k
 }
 
 fn period_turn(t: &[u8], c: Counts, m: &mut [u8], on: bool, number: IpduNumber)
