@@ -47,12 +47,12 @@ module _ (t : List ℕ) (c : Counts) (i k v : ℕ) (m : List ℕ) (r : ObjectRec
   unfolding marked
   mark-here s n here row sets = rw (← same, eq-eqb _ _ here, sets, row)
 
-  module _ (o : Object) (decoded : o ≡ object t c i) (n : List ℕ) where
-    pub inside-here : r .sender ≡ k → n ≡ deliver o i v m → n ≡ insideTurn t c k v i m
-    inside-here here delivers = rw (eq-eqb _ _ (ap (λ (r : ObjectRecord). r .sender) (sym same) ∙ here), delivers, decoded)
+  module _ (n : List ℕ) where
+    pub inside-here : r .sender ≡ k → n ≡ deliver (object t c i) i v m → n ≡ insideTurn t c k v i m
+    inside-here here delivers = rw (eq-eqb _ _ (ap (λ (r : ObjectRecord). r .sender) (sym same) ∙ here), delivers)
 
-    pub frame-here : r .ipdu ≡ k → v ≡ unpack o m → n ≡ deliver o i v m → n ≡ frameTurn t c k i m
-    frame-here here unpacks delivers = rw (eq-eqb _ _ (ap (λ (r : ObjectRecord). r .ipdu) (sym same) ∙ here), delivers, unpacks, decoded)
+    pub frame-here : (o : Object) → o ≡ object t c i → r .ipdu ≡ k → v ≡ unpack o m → n ≡ deliver (object t c i) i v m → n ≡ frameTurn t c k i m
+    frame-here o decoded here unpacks delivers = rw (eq-eqb _ _ (ap (λ (r : ObjectRecord). r .ipdu) (sym same) ∙ here), delivers, unpacks, decoded)
 
 pub frame-number : (t : List ℕ) (c : Counts) (i k : ℕ) (r : ObjectRecord) (o : Object) → Right t c → k < c .ipdus → r .ipdu ≡ k
     → r ≡ objectRecord t (c .ipdus) i → o ≡ object t c i → o .ipdu .0 < mostIpdus

@@ -8,6 +8,7 @@ ghost use lib.ListN.{length};
 ghost use Rattle.table.specs.Check.{Shape};
 ghost use Rattle.state.specs.Layout.{memorySize};
 ghost use Rattle.state.specs.Ranges.{Ready};
+ghost use Rattle.message.specs.Objects.{object, deliver};
 ghost use Rattle.delivery.specs.Delivery.{insideTurn, deliverInside, frameTurn, deliverFrame, markTurn, markObjects};
 
 // Delivers a whole value to the receive objects of a sending object.
@@ -40,6 +41,15 @@ fn inside_turn(
     if r.sender != sender.0 {
         return;
     }
+    deliver_to(t, c, m, number, v);
+}
+
+// Delivers a value to an object. It is decoded here, so that one copy of the code serves both walks.
+fn deliver_to(t: &[u8], c: Counts, m: &mut [u8], number: ObjectNumber, v: u32)
+    requires { ⌜ Ready (now t) c (now m) ⌝ }
+    requires { ⌜ number .0 < c .objects ⌝ }
+    ensures { λ _. ⌜ now (m .exit) ≡ deliver (object (now (t .entry)) c (number .0)) (number .0) v (now (m .entry)) ⌝ }
+{
     message::deliver(m, number, config::decode_object(t, c.ipdus, number), v);
 }
 
@@ -68,9 +78,8 @@ fn frame_turn(t: &[u8], c: Counts, m: &mut [u8], ipdu: IpduNumber, number: Objec
     if r.ipdu != ipdu.0 {
         return;
     }
-    let o = config::decode_object(t, c.ipdus, number);
-    let v = message::unpack(m, o);
-    message::deliver(m, number, o, v);
+    let v = message::unpack(m, config::decode_object(t, c.ipdus, number));
+    deliver_to(t, c, m, number, v);
 }
 
 // Marks each object of an I-PDU.

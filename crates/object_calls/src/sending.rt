@@ -32,8 +32,8 @@ pub fn send(
     if !calls::is_object(t, c, SENDING, number) {
         return Answer::WrongId;
     }
-    let o = config::decode_object(t, c.ipdus, number);
     delivery::deliver_inside(t, c, m, number, v);
+    let o = config::decode_object(t, c.ipdus, number);
     if !message::filter_sent(m, number, o, v) {
         return Answer::Done(0);
     }

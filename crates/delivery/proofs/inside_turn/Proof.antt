@@ -1,7 +1,6 @@
--- `delivery::inside_turn`: an object of this sender is decoded and delivered to, and any other stays.
+-- `delivery::inside_turn`: an object of this sender is delivered to, and any other stays.
 -- Assumes nothing.
 use borrow.Author.Needs.{needs}
-use Rattle.message.proofs.ObjectsInRange.{right-start, decoded-held, decoded-count}
 use Rattle.delivery.proofs.Turns.{inside-other, inside-here}
 use Rattle.delivery.proofs.inside_turn.Statement.{statement}
 use Rattle.delivery.proofs.inside_turn.Tie as tie
@@ -12,7 +11,6 @@ inside-turn-spec =
     (tie.spec
     (λ c κs. search needs)
     (λ c. search (needs, inside-other))
-    (λ c κs. (search needs, search (needs, right-start)))
-    (λ c κs. (search (needs, decoded-held), search (needs, decoded-count)))
+    (λ c κs. search needs)
     (λ c. search needs)
     (λ c. search (needs, inside-here)))

@@ -14,8 +14,8 @@ send-spec =
     (tie.spec
     (λ c κs. search needs)
     (λ c. search (needs, not-found))
-    (λ c κs. (search (needs, found-record), search (needs, found-start)))
     (λ c κs. search needs)
+    (λ c κs. (search (needs, found-record), search (needs, found-start)))
     (λ c κs. (search (needs, found-row-after), search (needs, found-count)))
     (λ c. search needs)
     (λ c. search (needs, send-dropped))
