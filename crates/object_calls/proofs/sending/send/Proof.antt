@@ -20,17 +20,23 @@ send-spec =
     (λ c. search needs)
     (λ c. search (needs, send-dropped))
     (λ c κs. search (needs, found-placed-after))
-    (λ c κs. (search (needs, found-has-ipdu), (search needs, search needs)))
+    (λ c κs.
+    let at-filter = c .before .before .before .before .before .before .before .before .before in
+    let at-object = at-filter .before .before in
+    let at-inside = at-object .before .before .before in
+    let at-found = at-inside .before .before in
+    let at-start = at-found .before .before .before .before .before in
+    (found-has-ipdu _ _ _ _ _ (at-found .before .is-object .ensures) (at-found .if1 .left) _ (at-start .pre .0) _ (at-object .decode-object .ensures),
+    (search needs, search needs)))
     (λ c. search needs)
     (λ c. search needs)
     (λ c.
     let at-request = c .before .before .before .before in
     let at-pack = at-request .before .before .before .before .before in
     let at-filter = at-pack .before .before .before .before .before in
-    let at-inside = at-filter .before .before .before .before in
-    let at-object = at-inside .before .before in
-    let is = at-object .before .before .is-object .ensures in
-    let there = at-object .before .if1 .left in
-    send-passed _ _ _ _ _ _ _ _ _ _ _ is there (at-object .decode-object .ensures) (at-inside .deliver-inside .ensures)
-    (at-filter .filter-sent .ensures .0) (at-filter .filter-sent .ensures .1) _ _ (at-pack .before .before .if2 .left) (at-pack .pack .ensures)
-    (at-request .request .ensures)))
+    let at-object = at-filter .before .before in
+    let at-inside = at-object .before .before .before in
+    let at-found = at-inside .before .before in
+    send-passed _ _ _ _ _ _ _ _ _ _ _ (at-found .before .is-object .ensures) (at-found .if1 .left) (at-object .decode-object .ensures)
+    (at-inside .deliver-inside .ensures) (at-filter .filter-sent .ensures .0) (at-filter .filter-sent .ensures .1) _ _
+    (at-pack .before .before .if2 .left) (at-pack .pack .ensures) (at-request .request .ensures)))
