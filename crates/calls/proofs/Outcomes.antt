@@ -226,6 +226,9 @@ module _ (t : List ℕ) (c : Counts) (k : ℕ) (bytes m : List ℕ) (p : Ipdu) (
       pub frame-fits : slotAt k + length bytes ≤ length m
       frame-fits = omega (arith, frame-exact, ipdu-short t c (ready .right) k low, ready .right .shape .ipdus, ready .long)
 
+      pub frame-few : length bytes ≤ 8
+      frame-few = omega (arith, frame-exact, ipdu-short t c (ready .right) k low)
+
       pub copied-ready : (n : List ℕ) → Bytes bytes → n ≡ replaced (slotAt k) bytes m → Ready t c n
       copied-ready n known copies =
           rw copies

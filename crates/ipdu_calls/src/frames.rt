@@ -12,6 +12,7 @@ ghost use mathlib.Core.List.{[]};
 ghost use mathlib.Core.Path.{_≡_};
 ghost use Prim.Native.Nat.{_+_, _≤_, _<_};
 ghost use lib.ListN.{length};
+ghost use Rattle.memory.specs.Bytes.{replaced};
 ghost use Rattle.memory.specs.Search.{pick};
 ghost use Rattle.state.specs.Ranges.{Ready};
 ghost use Rattle.calls.specs.Answers.{outcome};
@@ -50,10 +51,27 @@ fn good_indication(t: &[u8], c: Counts, m: &mut [u8], number: IpduNumber, bytes:
         return Answer::WrongLength;
     }
     let at = SLOTS + 8 * (number.0 as usize);
-    memory::copy(m, at, bytes);
+    put_frame(m, at, bytes);
     delivery::deliver_frame(t, c, m, number);
     transmission::set_timer(m, number, p);
     Answer::Done(0)
+}
+
+// Puts the bytes of a frame, at most eight, into memory from byte `at` on. The loop has two ends: with one a compiler would make
+// vector code of it that is longer and no faster here.
+fn put_frame(m: &mut [u8], at: usize, bytes: &[u8])
+    requires { ⌜ (at + length (now bytes) ≤ length (now m)) × (length (now bytes) ≤ 8) ⌝ }
+    ensures { λ _. ⌜ now (m .exit) ≡ replaced at (now (bytes .entry)) (now (m .entry)) ⌝ }
+{
+    let n = bytes.len();
+    let mut i = 0;
+    while i < 8 {
+        if n <= i {
+            return;
+        }
+        m[at + i] = bytes[i];
+        i += 1;
+    }
 }
 
 // Closes the open request of a send I-PDU.

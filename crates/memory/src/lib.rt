@@ -1,4 +1,4 @@
-// Little-endian numbers in lent bytes, and bytes copied or cleared. Every caller has checked that the bytes are there.
+// Little-endian numbers in lent bytes, and bytes cleared. Every caller has checked that the bytes are there.
 ghost use mathlib.Core.Path.{_≡_};
 ghost use Prim.Native.Nat.{_+_, _*_, _≤_, _<_, _^_};
 ghost use lib.ListN.{length, replicate};
@@ -129,19 +129,6 @@ pub fn write64(m: &mut [u8], at: usize, x: u64)
     m[f] = (y % 256) as u8;
     m[g] = (z % 256) as u8;
     m[h] = (z / 256 % 256) as u8;
-}
-
-// Copies bytes into memory from byte `at` on.
-pub fn copy(m: &mut [u8], at: usize, bytes: &[u8])
-    requires { ⌜ at + length (now bytes) ≤ length (now m) ⌝ }
-    ensures { λ _. ⌜ now (m .exit) ≡ replaced at (now (bytes .entry)) (now (m .entry)) ⌝ }
-{
-    let n = bytes.len();
-    let mut i = 0;
-    while i < n {
-        m[at + i] = bytes[i];
-        i += 1;
-    }
 }
 
 // Sets each byte to 0.

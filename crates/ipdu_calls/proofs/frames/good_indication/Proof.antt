@@ -2,7 +2,7 @@
 -- Assumes nothing.
 use borrow.Author.Needs.{needs}
 use Rattle.memory.specs.Bytes.{Bytes}
-use Rattle.calls.proofs.Outcomes.{wrong-length, frame-fits, copied-ready, frame-taken}
+use Rattle.calls.proofs.Outcomes.{wrong-length, frame-fits, frame-few, copied-ready, frame-taken}
 use Rattle.ipdu_calls.proofs.frames.good_indication.Statement.{statement}
 use Rattle.ipdu_calls.proofs.frames.good_indication.Tie as tie
 
@@ -16,7 +16,7 @@ good-indication-spec =
     (λ c. search needs)
     (λ c. search needs)
     (λ c. search needs)
-    (λ c κs. search (needs, frame-fits))
+    (λ c κs. (search (needs, frame-fits), search (needs, frame-few)))
     (λ c κs.
     let at-told = c .before .before .before .before .before .before .before .before .before in
     let known : Bytes (at-told .before .before .before .args .bytes .now) = λ i. at-told .shared-slice-known2 .given i .fits in
