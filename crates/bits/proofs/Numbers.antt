@@ -9,7 +9,7 @@ use native.Mathlib.Omega.{arith}
 use lib.Bits.{bitOr, or-shr, or-step}
 use lib.Pow.{pow-pos, shr-shr}
 use lib.Arith.{mod-mul}
-use Rattle.memory.proofs.Tests.{lt-or-le}
+use Rattle.memory.proofs.Tests.{lt-or-le, eq-or-ne}
 use Rattle.bits.specs.Bits.{bit, number}
 
 pub bit-lt : (n k : ℕ) → bit n k < 2
@@ -48,22 +48,37 @@ bit-high k b v i h =
     sym (bit-div (b + 2 ^ k * v) k i)
     ∙ ap (λ (m : ℕ). bit m i) (add-mul-div-left b v (pow-pos k) ∙ ap (λ (m : ℕ). m + v) (div-eq-of-lt h) ∙ zero-add v)
 
--- the bits of a number of k bits to which bit k was added
+-- a number of k bits has no bit from bit k on
+pub bit-above : (k w i : ℕ) → w < 2 ^ k → k ≤ i → bit w i ≡ 0
+bit-above k w i low h =
+    let there : i ≡ k + (i - k) = omega arith in
+    let same : w + 2 ^ k * 0 ≡ w = omega arith in
+    ap (bit w) there ∙ (rw same at (bit-high k w 0 (i - k) low)) ∙ bit-of-zero (i - k)
+
+-- bit k added to a number of k bits: it is there, the others stay, and so a bit of the sum is it or was there
+pub bit-own : (k w : ℕ) → w < 2 ^ k → bit (w + 2 ^ k) k ≡ 1
+unfolding bit
+bit-own k w low =
+    let here : k + 0 ≡ k = omega arith in
+    rw (mul-one (2 ^ k), here) at (bit-high k w 1 0 low)
+
+pub bit-others : (k w i : ℕ) → w < 2 ^ k → (i ≡ k → ⊥) → bit (w + 2 ^ k) i ≡ bit w i
+bit-others k w i low ne =
+    ⊎-elim (λ (h : i < k). rw (mul-one (2 ^ k)) at (bit-low k w 1 i h)) (λ (h : k ≤ i). above (i - k - 1) (omega (arith, h, ne))) (lt-or-le i k)
+  where
+    above : (j : ℕ) → i ≡ k + suc j → bit (w + 2 ^ k) i ≡ bit w i
+    above j there =
+        let none : bit (w + 2 ^ k) (k + suc j) ≡ 0 =
+        rw (mul-one (2 ^ k)) at (bit-high k w 1 (suc j) low) ∙ bit-suc 1 j ∙ bit-of-zero j in
+        ap (bit (w + 2 ^ k)) there ∙ none ∙ sym (bit-above k w i low (omega (arith, there)))
+
 pub bit-added : (k w i : ℕ) → w < 2 ^ k → bit (w + 2 ^ k) i ≡ 1 → (i ≡ k) ⊎ ((i < k) × (bit w i ≡ 1))
 bit-added k w i low e =
-    ⊎-elim
-    (λ (h : i < k). inr (h, sym (bit-low k w 1 i h) ∙ whole))
-    (λ (h : k ≤ i). inl (above (i - k) (omega (arith, h))))
-    (lt-or-le i k)
-  where
-    whole : bit (w + 2 ^ k * 1) i ≡ 1
-    whole = rw (mul-one (2 ^ k)) e
-
-    above : (d : ℕ) → i ≡ k + d → i ≡ k
-    above zero s = omega (arith, s)
-    above (suc j) s =
-        let one : bit 1 (suc j) ≡ 1 = sym (bit-high k w 1 (suc j) low) ∙ ap (bit (w + 2 ^ k * 1)) (sym s) ∙ whole in
-        absurd (omega (arith, one, bit-suc 1 j ∙ bit-of-zero j))
+    ⊎-elim inl
+    (λ (ne : i ≡ k → ⊥).
+    let one : bit w i ≡ 1 = sym (bit-others k w i low ne) ∙ e in
+    inr (⊎-elim (λ (h : i < k). h) (λ (h : k ≤ i). absurd (omega (arith, one, bit-above k w i low h))) (lt-or-le i k), one))
+    (eq-or-ne i k)
 
 pub bit-mod : (n k i : ℕ) → i < k → bit (n % 2 ^ k) i ≡ bit n i
 bit-mod n k i h = sym (bit-low k (n % 2 ^ k) (n / 2 ^ k) i h) ∙ ap (λ (m : ℕ). bit m i) (mod-add-div n (2 ^ k))

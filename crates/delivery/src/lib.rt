@@ -1,4 +1,7 @@
 // Delivery to the objects with a sending object or an I-PDU, and marks on the objects of an I-PDU, by rising number.
+mod due;
+
+pub use due::mark_due;
 use table::Counts;
 use table::IpduNumber;
 use table::ObjectNumber;

@@ -7,10 +7,11 @@ use Prim.Native.Nat.{ℕ, zero, suc, _+_, _-_, _*_, _/_, _%_, _^_, _≤_, _<_, m
 use native.Mathlib.Nat.{zero-add, zero-mod, mod-lt, one-le-pow, zero-lt-suc, pow-succ', mul-comm, le-of-suc-le-suc}
 use native.Mathlib.Numerals.{add-one}
 use native.Mathlib.Omega.{arith}
-use lib.ListN.{drop-of-length-le, replicate, length, getD, set, take, drop, length-take, length-drop, length-append, length-replicate, getD-replicate, List·getD-append, List·getD-eq-default}
+use lib.ListN.{replicate, length, getD, set, take, drop, length-take, length-drop, length-append, length-replicate, getD-replicate}
+use lib.ListN.{take-append-drop, drop-of-length-le, List·getD-append, List·getD-eq-default}
 use lib.Arith.{mod-mul}
 use lib.Pow.{pow-add}
-use lib.Seq.{ext-getD, sets, sets-eq, take-nil, take-suc, take-all, take-at, drop-at, length-take-le, getD-take, getD-drop, getD-append-add}
+use lib.Seq.{ext-getD, set-comm, sets, sets-eq, drop-drop, take-nil, take-suc, take-all, take-at, drop-at, length-take-le, getD-take, getD-drop, getD-append-add}
 use Rattle.memory.proofs.Tests.{lt-or-le}
 use Rattle.memory.specs.Bytes.{Bytes, value, bytesOf, part, numberAt, replaced}
 
@@ -267,3 +268,51 @@ unfolding replaced part
 replaced-bytes at f m b d =
     append-bytes (take at m) (f ++ drop (at + length f) m) (part-bytes 0 at m d)
     (append-bytes f (drop (at + length f) m) b (λ i. rw (getD-drop (at + length f) m i 0) (d (at + length f + i))))
+
+-- ---- bytes put at places that lie apart may be put in either order
+
+-- two parts of a list, one behind the other
+abbrev pub Apart : ℕ → ℕ → ℕ → ℕ → Type 0
+Apart a n b k = (a + n ≤ b) ⊎ (b + k ≤ a)
+
+-- one store and a run of them
+set-sets : (f m : List ℕ) (a j v : ℕ) → (j + 1 ≤ a) ⊎ (a + length f ≤ j) → set (sets m a f) j v ≡ sets (set m j v) a f
+set-sets [] m a j v side = refl
+set-sets (x ∷ f) m a j v side =
+    let ne : a ≡ j → ⊥ = λ e. ⊎-elim (λ (b : j + 1 ≤ a). omega arith) (λ (b : a + length (x ∷ f) ≤ j). omega arith) side in
+    set-sets f (set m a x) (suc a) j v
+    (⊎-elim (λ (b : j + 1 ≤ a). inl (omega arith)) (λ (b : a + length (x ∷ f) ≤ j). inr (omega arith)) side)
+    ∙ ap (λ (n : List ℕ). sets n (suc a) f) (set-comm m a j x v ne)
+
+sets-sets : (f g m : List ℕ) (a b : ℕ) → Apart a (length f) b (length g) → sets (sets m a f) b g ≡ sets (sets m b g) a f
+sets-sets f [] m a b side = refl
+sets-sets f (x ∷ g) m a b side =
+    ap (λ (n : List ℕ). sets n (suc b) g)
+    (set-sets f m a b x (⊎-elim (λ (h : a + length f ≤ b). inr h) (λ (h : b + length (x ∷ g) ≤ a). inl (omega arith)) side))
+    ∙ sets-sets f g (set m b x) a (suc b)
+    (⊎-elim (λ (h : a + length f ≤ b). inl (omega arith)) (λ (h : b + length (x ∷ g) ≤ a). inr (omega arith)) side)
+
+pub replaced-commute : (f g m : List ℕ) (a b : ℕ) → a + length f ≤ length m → b + length g ≤ length m → Apart a (length f) b (length g)
+    → replaced b g (replaced a f m) ≡ replaced a f (replaced b g m)
+replaced-commute f g m a b room room' side =
+    sym (sets-replaced b g (replaced a f m) (omega (arith, replaced-length a f m room)))
+    ∙ ap (λ (n : List ℕ). sets n b g) (sym (sets-replaced a f m room))
+    ∙ sets-sets f g m a b side
+    ∙ ap (λ (n : List ℕ). sets n a f) (sets-replaced b g m room')
+    ∙ sets-replaced a f (replaced b g m) (omega (arith, replaced-length b g m room'))
+
+-- ---- what stands there put there again
+
+replaced-same : (at k : ℕ) (m : List ℕ) → at + k ≤ length m → replaced at (part at k m) m ≡ m
+unfolding replaced part
+replaced-same at k m room =
+    let long : length (take k (drop at m)) ≡ k = part-length at k m room in
+    rw (long, ← drop-drop k at m, take-append-drop k (drop at m)) (take-append-drop at m)
+
+pub number-same : (at k : ℕ) (m : List ℕ) → Bytes m → at + k ≤ length m → replaced at (bytesOf k (numberAt k at m)) m ≡ m
+unfolding numberAt
+number-same at k m bs room =
+    let long : length (part at k m) ≡ k = part-length at k m room in
+    let all : length (part at k m) + 0 ≡ k = omega (arith, long) in
+    let back : bytesOf k (value (part at k m)) ≡ part at k m = rw all at (bytesOf-value (part at k m) 0 (part-bytes at k m bs)) ∙ append-nil (part at k m) in
+    rw back (replaced-same at k m room)

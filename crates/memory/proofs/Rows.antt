@@ -1,4 +1,4 @@
--- Laws of a row: its length, what lies apart from it, each field that was put, and that bytes stay bytes.
+-- Laws of a row: its length, what lies apart from it, each field that was put, that bytes stay bytes, and the order of two rows.
 -- Assumes nothing.
 use mathlib.Core.Bool.{true}
 use mathlib.Core.List.{List, [], _∷_}
@@ -12,7 +12,7 @@ use lib.ListN.{length}
 use Rattle.memory.specs.Bytes.{Bytes, value, bytesOf, numberAt, part, replaced}
 use Rattle.memory.specs.Rows.{Field, put, rising}
 use Rattle.memory.proofs.Tests.{and-split}
-use Rattle.memory.proofs.Parts.{bytesOf-length, bytesOf-bytes, replaced-length, replaced-bytes, part-apart, number-replaced}
+use Rattle.memory.proofs.Parts.{bytesOf-length, bytesOf-bytes, replaced-length, replaced-bytes, part-apart, number-replaced, Apart, replaced-commute, number-same}
 
 -- rising fields end where they should
 pub rising-end : (from end : ℕ) (fs : List Field) → rising from end fs ≡ true → from ≤ end
@@ -76,3 +76,54 @@ put-bytes a [] m b = b
 put-bytes a (f ∷ fs) m b =
     put-bytes a fs (replaced (a + f .offset) (bytesOf (f .width) (f .value)) m)
     (replaced-bytes (a + f .offset) (bytesOf (f .width) (f .value)) m (bytesOf-bytes (f .width) (f .value)) b)
+
+-- ---- rows that lie apart may be put in either order
+
+-- bytes and a row
+put-replaced : (a from end : ℕ) (fs : List Field) (m : List ℕ) → rising from end fs ≡ true → a + end ≤ length m
+    → (b : ℕ) (g : List ℕ) → b + length g ≤ length m → (b + length g ≤ a + from) ⊎ (a + end ≤ b)
+    → replaced b g (put a fs m) ≡ put a fs (replaced b g m)
+put-replaced a from end [] m e room b g room' side = refl
+put-replaced a from end (f ∷ fs) m e room b g room' side =
+    let parts = and-split (leb from (f .offset)) (rising (f .offset + f .width) end fs) e in
+    let begins : from ≤ f .offset = leb-true from (f .offset) (parts .0) in
+    let ends : f .offset + f .width ≤ end = rising-end (f .offset + f .width) end fs (parts .1) in
+    let long : length (bytesOf (f .width) (f .value)) ≡ f .width = bytesOf-length (f .width) (f .value) in
+    let fits : a + f .offset + length (bytesOf (f .width) (f .value)) ≤ length m = omega (arith, long) in
+    let same = field-length a end f m ends room in
+    put-replaced a (f .offset + f .width) end fs (replaced (a + f .offset) (bytesOf (f .width) (f .value)) m) (parts .1) (omega (arith, same)) b g
+    (omega (arith, same))
+    (⊎-elim (λ (h : b + length g ≤ a + from). inl (omega arith)) (λ (h : a + end ≤ b). inr h) side)
+    ∙ ap (put a fs)
+    (replaced-commute (bytesOf (f .width) (f .value)) g m (a + f .offset) b fits room'
+    (⊎-elim (λ (h : b + length g ≤ a + from). inr (omega arith)) (λ (h : a + end ≤ b). inl (omega (arith, long))) side))
+
+-- two rows of so many bytes
+pub put-commute : (a b from end : ℕ) (fs gs : List Field) (m : List ℕ) → rising 0 end fs ≡ true → rising from end gs ≡ true
+    → a + end ≤ length m → b + end ≤ length m → Apart a end b end → put b gs (put a fs m) ≡ put a fs (put b gs m)
+put-commute a b from end fs [] m e e' room room' side = refl
+put-commute a b from end fs (g ∷ gs) m e e' room room' side =
+    let parts = and-split (leb from (g .offset)) (rising (g .offset + g .width) end gs) e' in
+    let ends : g .offset + g .width ≤ end = rising-end (g .offset + g .width) end gs (parts .1) in
+    let long : length (bytesOf (g .width) (g .value)) ≡ g .width = bytesOf-length (g .width) (g .value) in
+    let fits : b + g .offset + length (bytesOf (g .width) (g .value)) ≤ length m = omega (arith, long) in
+    let same = field-length b end g m ends room' in
+    ap (put b gs)
+    (put-replaced a 0 end fs m e room (b + g .offset) (bytesOf (g .width) (g .value)) fits
+    (⊎-elim (λ (h : a + end ≤ b). inr (omega arith)) (λ (h : b + end ≤ a). inl (omega (arith, long))) side))
+    ∙ put-commute a b (g .offset + g .width) end fs gs (replaced (b + g .offset) (bytesOf (g .width) (g .value)) m) e (parts .1)
+    (omega (arith, same)) (omega (arith, same)) side
+
+-- ---- a row put as it was read
+
+-- each field of the row is what is put
+abbrev pub Reads : ℕ → List Field → List ℕ → Type 0
+Reads a [] m = Unit {0}
+Reads a (f ∷ fs) m = (f .value ≡ numberAt (f .width) (a + f .offset) m) × Reads a fs m
+
+pub put-same : (a from end : ℕ) (fs : List Field) (m : List ℕ) → Bytes m → rising from end fs ≡ true → a + end ≤ length m → Reads a fs m → put a fs m ≡ m
+put-same a from end [] m bs e room reads = refl
+put-same a from end (f ∷ fs) m bs e room reads =
+    let parts = and-split (leb from (f .offset)) (rising (f .offset + f .width) end fs) e in
+    let ends : f .offset + f .width ≤ end = rising-end (f .offset + f .width) end fs (parts .1) in
+    rw (reads .0, number-same (a + f .offset) (f .width) m bs (omega arith)) (put-same a (f .offset + f .width) end fs m bs (parts .1) room (reads .1))

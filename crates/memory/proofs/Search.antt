@@ -2,7 +2,7 @@
 -- Assumes nothing.
 use mathlib.Core.Bool.{Bool, true, false}
 use mathlib.Core.Logic.{_⊎_, inl, inr, ⊎-elim}
-use mathlib.Core.Path.{_≡_, refl, ap, _∙_}
+use mathlib.Core.Path.{_≡_, refl, sym, ap, _∙_}
 use Prim.Native.Nat.{ℕ, zero, suc, _+_, _≤_, _<_, zero-le, suc-le-suc}
 use native.Mathlib.Nat.{le-refl, le-of-suc-le-suc, not-suc-le-zero}
 use native.Mathlib.Numerals.{add-one, unary-clauses}
@@ -103,6 +103,40 @@ fold-at view (suc n) turn a j h keeps =
     (λ (ne : n ≡ j → ⊥).
     keeps n (le-refl (suc n)) ne ∙ fold-at view n turn a j (omega (arith, h, ne)) (λ k b. keeps k (omega (arith, b))))
     (eq-or-ne n j)
+
+-- ---- turns in another order
+
+-- each turn below n keeps P
+abbrev pub Keeps : {A : Type 0} → (A → Type 0) → ℕ → (ℕ → A → A) → Type 0
+Keeps {A} P n turn = (k : ℕ) → k < n → (a : A) → P a → P (turn k a)
+
+fewer : {A : Type 0} (P : A → Type 0) (n : ℕ) (turn : ℕ → A → A) → Keeps P (suc n) turn → Keeps P n turn
+fewer P n turn keeps k b = keeps k (omega (arith, b))
+
+-- a step that may be moved past each turn may be moved past all of them
+pub fold-moves : {A : Type 0} (P : A → Type 0) (step : A → A) (n : ℕ) (turn : ℕ → A → A) → Keeps P n turn
+    → ((k : ℕ) → k < n → (a : A) → P a → step (turn k a) ≡ turn k (step a)) → (a : A) → P a → step (fold n turn a) ≡ fold n turn (step a)
+fold-moves P step zero turn keeps moves a h = refl
+fold-moves P step (suc n) turn keeps moves a h =
+    moves n (le-refl (suc n)) (fold n turn a) (fold-keeps P n turn (fewer P n turn keeps) a h)
+    ∙ ap (turn n) (fold-moves P step n turn (fewer P n turn keeps) (λ k b. moves k (omega (arith, b))) a h)
+
+-- two rounds of turns are one, where each turn of the first round may be moved past the turns before it of the second
+pub fold-joins : {A : Type 0} (P : A → Type 0) (n : ℕ) (first second both : ℕ → A → A) → Keeps P n first → Keeps P n second
+    → ((j k : ℕ) → j < k → k < n → (a : A) → P a → first k (second j a) ≡ second j (first k a))
+    → ((k : ℕ) → k < n → (a : A) → P a → second k (first k a) ≡ both k a) → (a : A) → P a → fold n second (fold n first a) ≡ fold n both a
+fold-joins P zero first second both keeps keeps' moves joins a h = refl
+fold-joins {A} P (suc n) first second both keeps keeps' moves joins a h =
+    ap (second n)
+    (sym
+    (fold-moves P (first n) n second (fewer P n second keeps') (λ j b. moves j n b (le-refl (suc n))) (fold n first a) before))
+    ∙ joins n (le-refl (suc n)) (fold n second (fold n first a)) (fold-keeps P n second (fewer P n second keeps') (fold n first a) before)
+    ∙ ap (both n)
+    (fold-joins P n first second both (fewer P n first keeps) (fewer P n second keeps') (λ j k b d. moves j k b (omega (arith, d)))
+    (λ k b. joins k (omega (arith, b))) a h)
+  where
+    before : P (fold n first a)
+    before = fold-keeps P n first (fewer P n first keeps) a h
 
 -- ---- a loop as a fold: one turn more, and all of them
 

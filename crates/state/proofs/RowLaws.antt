@@ -12,7 +12,7 @@ use Rattle.table.specs.Records.{mostIpdus}
 use Rattle.memory.specs.Bytes.{Bytes, value, numberAt, part, replaced}
 use Rattle.memory.specs.Rows.{Field, put, rising}
 use Rattle.memory.proofs.Parts.{number-lt, part-apart}
-use Rattle.memory.proofs.Rows.{put-length, put-apart, put-holds, put-bytes}
+use Rattle.memory.proofs.Rows.{put-length, put-apart, put-holds, put-bytes, put-commute, put-same}
 use Rattle.memory.proofs.Tests.{lt-or-le}
 use Rattle.state.specs.declared.IpduState.{IpduState}
 use Rattle.state.specs.declared.ObjectState.{ObjectState}
@@ -215,3 +215,25 @@ pub object-keeps-ipdus : (m : List ℕ) (i : ℕ) (s : ObjectState) → objectRo
     → ipduState (withObjectState m i s) k ≡ ipduState m k
 object-keeps-ipdus m i s room k low =
     ipdu-read (withObjectState m i s) m k (λ o w h. object-part m i s room (ipduRow k + o) w (inl (omega arith)))
+
+-- ---- rows that differ may be stored in either order
+
+module _ (m : List ℕ) (i : ℕ) (o : ObjectState) (room : objectRow i + rowSize ≤ length m) where
+  pub ipdu-past-object : (k : ℕ) (s : IpduState) → k < mostIpdus → withIpduState (withObjectState m i o) k s ≡ withObjectState (withIpduState m k s) i o
+  unfolding withIpduState withObjectState
+  ipdu-past-object k s low =
+      put-commute (objectRow i) (ipduRow k) 0 rowSize (objectFields o) (ipduFields s) m refl refl room (omega arith) (inr (omega arith))
+
+  pub object-past-object : (j : ℕ) (p : ObjectState) → (i ≡ j → ⊥) → objectRow j + rowSize ≤ length m
+      → withObjectState (withObjectState m i o) j p ≡ withObjectState (withObjectState m j p) i o
+  unfolding withObjectState
+  object-past-object j p ne there =
+      put-commute (objectRow i) (objectRow j) 0 rowSize (objectFields o) (objectFields p) m refl refl room there
+      (⊎-elim (λ (b : i < j). inl (omega arith)) (λ (b : j ≤ i). inr (omega (arith, ne))) (lt-or-le i j))
+
+-- ---- a row stored as it was read changes nothing
+
+pub ipdu-same : (m : List ℕ) (k : ℕ) → Bytes m → ipduRow k + rowSize ≤ length m → withIpduState m k (ipduState m k) ≡ m
+unfolding withIpduState ipduState
+ipdu-same m k bs room =
+    put-same (ipduRow k) 0 rowSize (ipduFields (ipduState m k)) m bs refl room (refl, (refl, (refl, (refl, (refl, (refl, (refl, tt)))))))

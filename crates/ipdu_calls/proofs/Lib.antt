@@ -1,0 +1,3 @@
+pub mod RowTicks
+pub mod MarkedOnce
+pub mod Idle
