@@ -1,11 +1,10 @@
-// Makes one call of the layer ten times, each time from the same memory; bench/layer.sh counts its instructions. `case12` is
+// The calls that are measured (bench/beside.sh, bench/size.sh), over two tables. `case12` is
 // document 01's case 12. `large` has 32 I-PDUs and 128 objects, in both byte orders, with mixed filters:
 //   I-PDUs 0..15 are sent, in all three modes, eight of them with a period, with objects 4k..4k+3 each, the third of them
 //   pending;
 //   I-PDU 16 has the unqueued objects 64..71, I-PDU 17 the objects 72..79 with queues of depth 4, all eight filters let
 //   `FRAME` pass, and I-PDUs 18..31 have objects 80..121, three each, every third with a queue of depth 8;
 //   objects 122..127 have the sending objects 12, 16, 17, 21, 33 and 63.
-use std::hint::black_box;
 use std::ops::Range;
 
 #[repr(C)]
@@ -56,8 +55,6 @@ pub fn pair_bytes(step: u32) -> Vec<u8> {
 }
 
 pub const FRAME: [u8; 8] = [0x5A, 0xC3, 0x7E, 0x91, 0x3C, 0xE7, 0xA5, 0x69];
-const SLOTS: usize = 528;
-const REPETITIONS: usize = 10;
 
 #[derive(Clone, Copy)]
 pub enum Call {
@@ -110,13 +107,6 @@ pub fn make(call: Call, t: &[u8], m: &mut [u8], area: &mut [u8]) -> Answer {
             }
         }
     }
-}
-
-// callgrind collects in this function alone, and in what it calls.
-#[no_mangle]
-#[inline(never)]
-pub fn measured(call: Call, t: &[u8], m: &mut [u8], area: &mut [u8]) -> Answer {
-    black_box(make(call, t, m, area))
 }
 
 fn header(ipdus: u16, objects: u16) -> Vec<u8> {
@@ -244,37 +234,10 @@ pub fn rows(large: bool) -> Vec<Row> {
         row("indication_3", &[Start], Indication(31, 1), (0, 0), (119..122, 1), (31, true));
         row("tick_8_periods", &ticks(&periodic, 4), Tick, (0, 0x6666), (0..1, 0), (0, false));
         row("tick_16_timers", &ticks(&[Start], 89), Tick, (0, 0), (64..122, 4), (16, false));
+        let sends: Vec<Call> = (0..16).filter(|k| k % 4 != 2).map(|k| Send(4 * k, 5)).collect();
+        let due = ticks(&[&ticks(&[Start], 80)[..], &sends].concat(), 9);
+        row("tick_28_due", &due, Tick, (0, 0), (64..122, 4), (16, false));
         row("indication_not_good", &[Start], Indication(16, 0), (0, 0), (64..72, 4), (16, false));
     }
     rows
-}
-
-fn main() {
-    let arguments: Vec<String> = std::env::args().collect();
-    let is_large = arguments[1] == "large";
-    let t = if is_large { large() } else { case12() };
-    if arguments.len() == 2 {
-        rows(is_large).iter().for_each(|r| println!("{}", r.name));
-        return;
-    }
-    let r = rows(is_large).into_iter().find(|r| r.name == arguments[2]).expect("a row of the table");
-    let mut m = [0xA5u8; 8192];
-    let mut area = [0u8; 256];
-    for call in r.before {
-        assert_eq!(make(call, &t, &mut m, &mut area).number, 0, "a call before {}", r.name);
-    }
-    let saved = m;
-    make(r.call, &t, &mut m, &mut area);
-    for _ in 0..REPETITIONS {
-        m = saved;
-        area.fill(0);
-        let answer = measured(r.call, &t, &mut m, &mut area);
-        assert_eq!((answer.number, answer.value), r.answer, "{}", r.name);
-        for i in r.marks.0.clone() {
-            let marks = make(Marks(i), &t, &mut m, &mut area);
-            assert_eq!((marks.number, marks.value), (0, r.marks.1), "{}: marks of object {i}", r.name);
-        }
-        let slot = SLOTS + 8 * r.slot.0..SLOTS + 8 * r.slot.0 + 8;
-        assert_eq!(m[slot.clone()] != saved[slot], r.slot.1, "{}: the slot of I-PDU {}", r.name, r.slot.0);
-    }
 }

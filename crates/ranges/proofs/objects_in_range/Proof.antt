@@ -45,8 +45,9 @@ objects-in-range-spec =
     let at-test = c .before in
     let at-loop = at-test .before .before .before in
     let at-start = at-loop .before .before .before .before in
-    let inv = at-loop .loop .inv in
-    (search needs,
-    objects-upto _ (at-start .args .c) _ (in-units _ (inv .2)) _ (at-test .object-in-range .ensures) (c .if1 .left) (inv .1),
-    search (needs, next-queue, depth-limit)))
+    let inv = at-loop .loop .inv in (
+      search needs,
+      objects-upto _ (at-start .args .c) _ (in-units _ (inv .2)) _ (at-test .object-in-range .ensures) (c .if1 .left) (inv .1),
+      search (needs, next-queue, depth-limit),
+    ))
     (λ c. search (needs, none-out)))

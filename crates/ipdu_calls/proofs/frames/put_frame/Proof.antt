@@ -2,6 +2,7 @@
 -- Assumes nothing.
 use mathlib.Core.Path.{_≡_, refl}
 use Prim.Native.Nat.{_-_, _≤_}
+use native.Mathlib.Omega.{arith}
 use borrow.Author.Needs.{needs}
 use lib.ListN.{length, take}
 use lib.Seq.{sets}
@@ -31,4 +32,7 @@ put-frame-spec =
     (λ c. search needs)
     (λ c. (search needs, search (needs, stored-more), search needs))
     (λ c. search needs)
-    (λ c. search (needs, stored-all)))
+    (λ c.
+    let at-start = c .before .before in
+    let all : length (at-start .args .bytes .now) ≤ c .before .loop .i = omega (arith, c .loop-test .left, at-start .pre .1) in
+    stored-all _ _ _ _ (c .before .loop .inv .1) all (at-start .pre .0)))

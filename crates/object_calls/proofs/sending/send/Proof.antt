@@ -25,9 +25,10 @@ send-spec =
     let at-object = at-filter .before .before in
     let at-inside = at-object .before .before .before in
     let at-found = at-inside .before .before in
-    let at-start = at-found .before .before .before .before .before in
-    (found-has-ipdu _ _ _ _ _ (at-found .before .is-object .ensures) (at-found .if1 .left) _ (at-start .pre .0) _ (at-object .decode-object .ensures),
-    (search needs, search needs)))
+    let at-start = at-found .before .before .before .before .before in (
+      found-has-ipdu _ _ _ _ _ (at-found .before .is-object .ensures) (at-found .if1 .left) _ (at-start .pre .0) _ (at-object .decode-object .ensures),
+      (search needs, search needs),
+    ))
     (λ c. search needs)
     (λ c. search needs)
     (λ c.
