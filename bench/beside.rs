@@ -182,9 +182,12 @@ fn row(name: &str, t: &[u8], measured: &Measured, state: &State, answer: Answer,
     if answers != [answer; 2] || ours != peers {
         fail(name, &format!("{answer:?}: proved {:?}, peer {:?}", answers[0], answers[1]));
     }
-    let stop = Measured::Call { act: Act::Call(Call::Stop), memory: MEMORY, statuses: 0 };
+    let empty = match measured {
+        Measured::Check => Measured::Check,
+        _ => Measured::Call { act: Act::Call(Call::Stop), memory: MEMORY, statuses: 0 },
+    };
     let calls: Three = [
-        (&|state| run(&EMPTY, &stop, t, state), (0, 0)),
+        (&|state| run(&EMPTY, &empty, t, state), (0, 0)),
         (&|state| run(&PROVED, measured, t, state), answer),
         (&|state| run(&PEER, measured, t, state), answer),
     ];

@@ -7,7 +7,7 @@ use table::Counts;
 use table::IpduNumber;
 use table::RECEIVING;
 use table::SENDING;
-ghost use mathlib.Core.Bool.{true, false};
+ghost use mathlib.Core.Bool.{true};
 ghost use mathlib.Core.List.{[]};
 ghost use mathlib.Core.Path.{_≡_};
 ghost use Prim.Native.Nat.{_+_, _≤_, _<_};
@@ -16,7 +16,7 @@ ghost use Rattle.memory.specs.Bytes.{replaced};
 ghost use Rattle.memory.specs.Search.{pick};
 ghost use Rattle.state.specs.Ranges.{Ready};
 ghost use Rattle.calls.specs.Answers.{outcome};
-ghost use Rattle.calls.specs.Calls.{indicationOf, indicationIn, confirmOf, confirmIn};
+ghost use Rattle.calls.specs.Calls.{indicationOf, indicationIn, confirmIn};
 
 // Takes over the bytes of a receive I-PDU, or notes that they were not received.
 pub fn indication(

@@ -1,15 +1,14 @@
 -- The ranges of an I-PDU's row, in the order of the code: what each test says of its part. x, y and z are numbers that were read.
 -- Assumes nothing.
 use mathlib.Core.Bool.{Bool, true, false, not, _&&_}
-use mathlib.Core.List.{[], _∷_}
 use mathlib.Core.Logic.{⊎-elim}
 use mathlib.Core.Path.{_≡_, refl, sym, _∙_}
 use Prim.Native.Nat.{ℕ, _+_, _*_, _≤_, _<_, max, zero-le}
 use native.Mathlib.Nat.{le-max-left, le-max-right, max-eq-left, max-eq-right}
 use native.Mathlib.Omega.{arith}
-use borrow.Author.Tests.{eqb-true, leb-true, eq-eqb, ne-eqb, le-leb, lt-leb}
+use borrow.Author.Tests.{eqb-true, eq-eqb, ne-eqb, le-leb, lt-leb}
 use lib.Dec.{leb, eqb}
-use Rattle.memory.proofs.Tests.{and-split, and-false, true-or-false, tested-true, tested-false, eq-or-ne, lt-or-le}
+use Rattle.memory.proofs.Tests.{and-split, and-false, tested-true, tested-false, eq-or-ne, lt-or-le}
 use Rattle.config.specs.declared.Direction.the-variants.{Send, Receive}
 use Rattle.config.specs.declared.Ipdu.{Ipdu}
 use Rattle.state.specs.declared.IpduState.{IpduState}

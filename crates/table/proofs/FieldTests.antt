@@ -1,24 +1,22 @@
 -- The tests of an object record's filter, place and use, in the order of the code: what each says of the fields. x, y and z are numbers that were read.
 -- Assumes nothing.
 use mathlib.Core.Bool.{Bool, true, false, _&&_, _||_}
-use mathlib.Core.List.{List, [], _∷_}
 use mathlib.Core.Logic.{⊎-elim}
-use mathlib.Core.Path.{_≡_, refl, sym, ap, _∙_}
+use mathlib.Core.Path.{_≡_, refl, sym, _∙_}
 use Prim.Native.Nat.{ℕ, _+_, _-_, _*_, _/_, _%_, _^_, _≤_, _<_}
 use native.Mathlib.Omega.{arith}
-use borrow.Author.Tests.{eqb-true, leb-true, eq-eqb, ne-eqb, le-leb, lt-leb, lt-ltb, le-ltb}
+use borrow.Author.Tests.{eq-eqb, ne-eqb, le-leb, lt-leb, lt-ltb, le-ltb}
 use lib.Dec.{leb, ltb, eqb}
 use Rattle.memory.specs.Search.{pick}
-use Rattle.memory.proofs.Tests.{and-split, each-true, and-false, lt-or-le, eq-or-ne}
-use Rattle.bits.specs.declared.Order.the-variants.{Little, Big}
+use Rattle.memory.proofs.Tests.{and-false, lt-or-le, eq-or-ne}
+use Rattle.bits.specs.declared.Order.the-variants.{Big}
 use Rattle.bits.specs.Bits.{room}
 use Rattle.bits.specs.Slots.{position}
 use Rattle.bits.proofs.Places.{position-lt}
 use Rattle.filter.specs.Filters.{filterRight}
 use Rattle.filter.proofs.Laws.{no-constants}
 use Rattle.table.specs.declared.ObjectRecord.{ObjectRecord}
-use Rattle.table.specs.Records.{sending, receiving, absent}
-use Rattle.table.specs.Rules.{orderOf}
+use Rattle.table.specs.Records.{sending, absent}
 use Rattle.table.specs.Inner.{filterField, placeField, useFields}
 
 -- ---- the sender

@@ -3,7 +3,7 @@
 use mathlib.Core.Bool.{Bool, true, false, not, _&&_, _||_}
 use mathlib.Core.List.{List, [], _∷_}
 use mathlib.Core.Logic.{_⊎_, inl, inr, ⊎-elim}
-use mathlib.Core.Path.{_≡_, refl, sym, ap, _∙_}
+use mathlib.Core.Path.{_≡_, sym, _∙_}
 use Prim.Native.Nat.{ℕ, _+_, _*_, _≤_, _<_}
 use native.Mathlib.Omega.{arith}
 use borrow.Author.Tests.{eqb-true, leb-true, eq-eqb, ne-eqb, le-leb, lt-ltb, le-ltb}
@@ -16,7 +16,7 @@ use Rattle.table.specs.declared.Counts.{Counts}
 use Rattle.table.specs.declared.ObjectRecord.{ObjectRecord}
 use Rattle.table.specs.declared.References.{References}
 use Rattle.table.specs.Records.{sending, receiving, absent, ipduRecord, objectRecord}
-use Rattle.table.specs.Rules.{orderOf, references, sendObject, receiveObject, withoutIpdu, withinIpdu, senderRight, bytesRight, ipduRight, objectRight}
+use Rattle.table.specs.Rules.{orderOf, references, sendObject, receiveObject, withoutIpdu, withinIpdu, senderRight, objectRight}
 use Rattle.table.specs.Check.{Shape}
 use Rattle.table.specs.Inner.{Filtered, IpdusRight, filterField, placeField, useFields}
 use Rattle.table.proofs.Facts.{object-facts, ByteFacts, byte-facts, ipdu-facts, direction-known, or-right}

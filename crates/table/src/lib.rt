@@ -81,7 +81,7 @@ pub struct ObjectRecord {
 }
 
 // What an object record refers to: the direction and length of its I-PDU and the kind of its sending object, 0 where there is
-// none.
+// none. For the rules' definition alone; the code looks where the record refers to.
 pub struct References {
     pub direction: u32,
     pub length: u32,

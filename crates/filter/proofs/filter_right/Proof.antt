@@ -1,6 +1,5 @@
 -- `filter::filter_right`: its tests by number are those of the definition (`by-number`).
 -- Assumes nothing.
-use borrow.Author.Needs.{needs}
 use borrow.Author.Tests.{ne-eqb}
 use Rattle.filter.proofs.Laws.{by-number}
 use Rattle.filter.proofs.filter_right.Statement.{statement}

@@ -5,7 +5,6 @@ use mathlib.Core.Path.{_≡_, refl}
 use Prim.Native.Nat.{_-_, _≤_}
 use lib.ListN.{length}
 use Rattle.memory.specs.Search.{fold}
-use Rattle.memory.proofs.Search.{turns-done}
 use Rattle.timing.specs.Periods.{periodTurn, setPeriods}
 use Rattle.timing.proofs.PeriodTurn.{first-turn, next-turn}
 use Rattle.timing.proofs.periods.set_periods.Statement.{statement}
