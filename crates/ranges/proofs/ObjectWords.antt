@@ -158,7 +158,10 @@ module _ (m : List ℕ) (bs : Bytes m) (i : ℕ) {x : ℕ} (read : x ≡ numberA
         each-true (leb (objectState m i .marks) 15)
         (leb (objectState m i .overflow) 1 ∷ leb (objectState m i .count) (r .depth) ∷ leb (objectState m i .head) (r .depth - 1) ∷ eqb (objectState m i .queue) (q / queueUnit)
         ∷ leb (objectState m i .occurrence) (greatestCount (recordFilter r)) ∷ []) e in
-        absurd (other (omega (arith, same, fixed, leb-true (objectState m i .marks) 15 (all .0), leb-true (objectState m i .overflow) 1 (all .1 .0), eqb-true (objectState m i .queue) (q / queueUnit) (all .1 .1 .1 .1 .0)))))
+        let marks = leb-true (objectState m i .marks) 15 (all .0) in
+        let overflow = leb-true (objectState m i .overflow) 1 (all .1 .0) in
+        let queue = eqb-true (objectState m i .queue) (q / queueUnit) (all .1 .1 .1 .1 .0) in
+        absurd (other (omega (arith, same, fixed, marks, overflow, queue))))
         sym
         (true-or-false (objectInRange r (q / queueUnit) (objectState m i)))
 
