@@ -19,7 +19,7 @@ use Rattle.table.specs.declared.Counts.{Counts}
 use Rattle.table.specs.declared.IpduRecord.{IpduRecord}
 use Rattle.table.specs.declared.ObjectRecord.{ObjectRecord}
 use Rattle.table.specs.declared.References.{References}
-use Rattle.table.specs.Records.{receiving, sending, ipduRecord}
+use Rattle.table.specs.Records.{receiving, sending, absent, ipduRecord}
 use Rattle.table.specs.Rules.{ipduRight, sendIpdu, receiveIpdu, orderOf, references, sendObject, receiveObject, withoutIpdu, withinIpdu, senderRight, bytesRight, objectRight}
 use Rattle.table.proofs.Turns.{or-false}
 
@@ -59,6 +59,28 @@ byte-facts r e =
     (leb (r .size) 32 ∷ leb (r .order) 1 ∷ leb (r .transfer) 1 ∷ leb (r .depth) 16
     ∷ eqb (r .«zero_9») 0 ∷ eqb (r .«zero_10») 0 ∷ eqb (r .«zero_24») 0 ∷ []) e in
     search (leb-true, eqb-true)
+
+-- its kind, and what goes with it
+pub record Sent (r : ObjectRecord) : Type 0 where
+  pub kind : r .kind ≡ sending
+  pub sender : r .sender ≡ absent
+  pub depth : r .depth ≡ 0
+
+pub record Received (r : ObjectRecord) : Type 0 where
+  pub kind : r .kind ≡ receiving
+  pub transfer : r .transfer ≡ 0
+  pub one : (eqb (r .ipdu) absent || eqb (r .sender) absent) ≡ true
+
+pub kind-facts : (r : ObjectRecord) (x : References) → objectRight r x ≡ true → Sent r ⊎ Received r
+kind-facts r x f = ⊎-elim (λ e. inl (sends e)) (λ e. inr (receives e)) (or-cases (sendObject r) (receiveObject r) (object-facts r x f .kinds))
+  where
+    sends : sendObject r ≡ true → Sent r
+    sends e = let all = each-true (eqb (r .kind) sending) (eqb (r .sender) absent ∷ eqb (r .depth) 0 ∷ []) e in search eqb-true
+
+    receives : receiveObject r ≡ true → Received r
+    receives e =
+        let all = each-true (eqb (r .kind) receiving) (eqb (r .transfer) 0 ∷ (eqb (r .ipdu) absent || eqb (r .sender) absent) ∷ []) e in
+        search eqb-true
 
 -- ---- I-PDU records
 

@@ -19,7 +19,7 @@ use Rattle.table.specs.Records.{sending, receiving, absent, ipduRecord, 
 use Rattle.table.specs.Rules.{orderOf, references, sendObject, receiveObject, withoutIpdu, withinIpdu, senderRight, objectRight}
 use Rattle.table.specs.Check.{Shape}
 use Rattle.table.specs.Inner.{Filtered, IpdusRight, filterField, placeField, useFields}
-use Rattle.table.proofs.Facts.{object-facts, ByteFacts, byte-facts, ipdu-facts, direction-known, or-right}
+use Rattle.table.proofs.Facts.{object-facts, ByteFacts, byte-facts, Sent, Received, kind-facts, ipdu-facts, direction-known, or-right}
 
 -- ---- what the fields say
 
@@ -52,17 +52,6 @@ received : (r : ObjectRecord) → useFields r receiving ≡ true → (r .transfe
 unfolding useFields
 received r e = let both = and-split (eqb (r .transfer) 0) (leb (r .depth) 16) e in (eqb-true _ _ (both .0), leb-true _ _ (both .1))
 
--- a right object's kind, and what goes with it
-record Sent (r : ObjectRecord) : Type 0 where
-  kind : r .kind ≡ sending
-  sender : r .sender ≡ absent
-  depth : r .depth ≡ 0
-
-record Received (r : ObjectRecord) : Type 0 where
-  kind : r .kind ≡ receiving
-  transfer : r .transfer ≡ 0
-  one : (eqb (r .ipdu) absent || eqb (r .sender) absent) ≡ true
-
 -- it lies outside any I-PDU
 record Outside (r : ObjectRecord) : Type 0 where
   ipdu : r .ipdu ≡ absent
@@ -76,17 +65,6 @@ module _ (r : ObjectRecord) (x : References) where
 
   bytes : objectRight r x ≡ true → ByteFacts r
   bytes f = byte-facts r (object-facts r x f .bytes)
-
-  kinds : objectRight r x ≡ true → Sent r ⊎ Received r
-  kinds f = ⊎-elim (λ e. inl (sends e)) (λ e. inr (receives e)) (or-cases (sendObject r) (receiveObject r) (object-facts r x f .kinds))
-    where
-      sends : sendObject r ≡ true → Sent r
-      sends e = let all = each-true (eqb (r .kind) sending) (eqb (r .sender) absent ∷ eqb (r .depth) 0 ∷ []) e in search eqb-true
-
-      receives : receiveObject r ≡ true → Received r
-      receives e =
-          let all = each-true (eqb (r .kind) receiving) (eqb (r .transfer) 0 ∷ (eqb (r .ipdu) absent || eqb (r .sender) absent) ∷ []) e in
-          search eqb-true
 
   right : Filtered r → 1 ≤ r .size → r .size ≤ 32 → r .order ≤ 1 → r .transfer ≤ 1 → r .depth ≤ 16
       → (sendObject r || receiveObject r) ≡ true → (withoutIpdu r || withinIpdu r x) ≡ true → senderRight r x ≡ true → true ≡ objectRight r x
@@ -131,7 +109,7 @@ module _ (r : ObjectRecord) (x : References) where
       (λ (s : Received r).
       let two : _ ≡ receiving = sym same ∙ s .kind in
       rw (two, eq-eqb (r .transfer) 0 (s .transfer), le-leb (r .depth) 16 (fields .depths)))
-      (kinds f)
+      (kind-facts r x f)
 
 -- what the two functions behind ask for
 pub filtered : (r : ObjectRecord) {b : Bool} {y : ℕ} → y ≡ r .«zero_24» → y ≡ 0 → b ≡ filterField r → not b ≡ false → Filtered r
@@ -181,7 +159,7 @@ module _ (t : List ℕ) (c : Counts) (r : ObjectRecord) (shape : Shape t c) (ipd
       ⊎-elim
       (λ (s : Sent r). some (e ∙ s .sender))
       (λ (s : Received r). some (e ∙ eqb-true _ _ (or-right (eqb (r .ipdu) absent) (eqb (r .sender) absent) here (s .one))))
-      (kinds r (references t c r) f))
+      (kind-facts r (references t c r) f))
 
   pub no-room : {b : Bool} {y : ℕ} → y ≡ ipduRecord t k .length → b ≡ placeField r y → not b ≡ true → false ≡ objectRight r (references t c r)
   unfolding placeField
@@ -238,7 +216,7 @@ module _ (t : List ℕ) (c : Counts) (r : ObjectRecord) (high : c .ipdus ≤ r .
       (λ e.
       let none : eqb 0 (r .kind) ≡ true = and-split (eqb 0 (r .kind)) _ (rw (le-ltb (r .ipdu) (c .ipdus) high) at e) .0 in
       let kind = eqb-true 0 (r .kind) none in
-      absurd (⊎-elim (λ (s : Sent r). omega (arith, s .kind)) (λ (s : Received r). omega (arith, s .kind)) (kinds r (references t c r) f)))
+      absurd (⊎-elim (λ (s : Sent r). omega (arith, s .kind)) (λ (s : Received r). omega (arith, s .kind)) (kind-facts r (references t c r) f)))
       (or-cases (withoutIpdu r) (withinIpdu r (references t c r)) (facts .places))
 
   pub another-ipdu : {y : ℕ} → y ≡ r .ipdu → (y ≡ absent → ⊥) → false ≡ objectRight r (references t c r)
@@ -255,12 +233,12 @@ module _ (t : List ℕ) (c : Counts) (r : ObjectRecord) (high : c .ipdus ≤ r .
     pub sent-from-sender : {y : ℕ} → k ≡ sending → y ≡ r .sender → (y ≡ absent → ⊥) → false ≡ objectRight r (references t c r)
     sent-from-sender one e some =
         refused r (references t c r) (λ f.
-        ⊎-elim (λ (s : Sent r). some (e ∙ s .sender)) (λ (s : Received r). omega (arith, s .kind)) (kinds r (references t c r) f))
+        ⊎-elim (λ (s : Sent r). some (e ∙ s .sender)) (λ (s : Received r). omega (arith, s .kind)) (kind-facts r (references t c r) f))
 
     pub no-kind : (k ≡ sending → ⊥) → (k ≡ receiving → ⊥) → false ≡ objectRight r (references t c r)
     no-kind not-sent not-received =
         refused r (references t c r) (λ f.
-        ⊎-elim (λ (s : Sent r). not-sent (kind ∙ s .kind)) (λ (s : Received r). not-received (kind ∙ s .kind)) (kinds r (references t c r) f))
+        ⊎-elim (λ (s : Sent r). not-sent (kind ∙ s .kind)) (λ (s : Received r). not-received (kind ∙ s .kind)) (kind-facts r (references t c r) f))
 
     pub use-wrong : {u : Bool} → u ≡ useFields r k → not u ≡ true → false ≡ objectRight r (references t c r)
     use-wrong e wrong = refused r (references t c r) (λ f. true-not-false (uses-right r (references t c r) (sym kind) f) (tested-false e wrong))
