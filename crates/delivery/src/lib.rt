@@ -81,8 +81,8 @@ fn frame_turn(t: &[u8], c: Counts, m: &mut [u8], ipdu: IpduNumber, number: Objec
     if r.ipdu != ipdu.0 {
         return;
     }
-    let v = message::unpack(m, config::decode_object(t, c.ipdus, number));
-    deliver_to(t, c, m, number, v);
+    let reading = message::unpack(m, config::decode_object(t, c.ipdus, number));
+    deliver_to(t, c, m, number, reading);
 }
 
 // Marks each object of an I-PDU.
