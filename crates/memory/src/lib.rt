@@ -10,8 +10,8 @@ fn wide(x: u8) -> u64
     x as u64
 }
 
-// A byte put above the low `at` bits of a number. Reads that are joined like this are compiled to one load.
-fn put(below: u64, x: u8, at: u32) -> u64
+// A number of `at` bits with one byte more above them. Reads that are joined like this are compiled to one load.
+fn with_byte(below: u64, x: u8, at: u32) -> u64
     requires { ⌜ (at ≤ 56) × (below < 2 ^ at) ⌝ }
     ensures { λ r. ⌜ (r ≡ x * 2 ^ at + below) × (r < 2 ^ (at + 8)) ⌝ }
 {
@@ -32,7 +32,7 @@ pub fn read16(m: &[u8], at: usize) -> u32
     ensures { λ r. ⌜ (r ≡ numberAt 2 at (now (m .entry))) × (r < 2 ^ 16) ⌝ }
 {
     let b = at + 1;
-    put(wide(m[at]), m[b], 8) as u32
+    with_byte(wide(m[at]), m[b], 8) as u32
 }
 
 // The four bytes from `at` on, as a number.
@@ -43,9 +43,9 @@ pub fn read32(m: &[u8], at: usize) -> u32
     let b = at + 1;
     let c = b + 1;
     let d = c + 1;
-    let x = put(wide(m[at]), m[b], 8);
-    let y = put(x, m[c], 16);
-    put(y, m[d], 24) as u32
+    let x = with_byte(wide(m[at]), m[b], 8);
+    let y = with_byte(x, m[c], 16);
+    with_byte(y, m[d], 24) as u32
 }
 
 // The eight bytes from `at` on, as a number.
@@ -60,13 +60,13 @@ pub fn read64(m: &[u8], at: usize) -> u64
     let f = e + 1;
     let g = f + 1;
     let h = g + 1;
-    let t = put(wide(m[at]), m[b], 8);
-    let u = put(t, m[c], 16);
-    let v = put(u, m[d], 24);
-    let w = put(v, m[e], 32);
-    let x = put(w, m[f], 40);
-    let y = put(x, m[g], 48);
-    put(y, m[h], 56)
+    let t = with_byte(wide(m[at]), m[b], 8);
+    let u = with_byte(t, m[c], 16);
+    let v = with_byte(u, m[d], 24);
+    let w = with_byte(v, m[e], 32);
+    let x = with_byte(w, m[f], 40);
+    let y = with_byte(x, m[g], 48);
+    with_byte(y, m[h], 56)
 }
 
 // Puts a number's low byte at `at`.

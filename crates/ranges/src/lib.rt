@@ -6,7 +6,9 @@ use state::RUNNING;
 use table::Counts;
 use table::HEADER_SIZE;
 use table::IPDU_SIZE;
+use table::IpduNumber;
 use table::OBJECT_SIZE;
+use table::ObjectNumber;
 use table::SENDING;
 ghost use mathlib.Core.Bool.{not};
 ghost use mathlib.Core.Path.{_≡_};
@@ -53,7 +55,7 @@ fn ipdus_in_range(t: &[u8], c: Counts, m: &[u8]) -> bool
     let n = c.ipdus;
     let mut k = 0;
     while k < n {
-        if !ipdu_in_range(t, c, m, k) {
+        if !ipdu_in_range(t, c, m, IpduNumber(k)) {
             return false;
         }
         k += 1;
@@ -73,7 +75,7 @@ fn objects_in_range(t: &[u8], c: Counts, m: &[u8]) -> bool
     while i < end {
         let a = HEADER_SIZE + IPDU_SIZE * n + OBJECT_SIZE * (i as usize);
         let depth = memory::read8(t, a + 7);
-        if !object_in_range(t, c, m, i, depth, queue) {
+        if !object_in_range(t, c, m, ObjectNumber(i), depth, queue) {
             return false;
         }
         queue += QUEUE_UNIT * (depth as u64);
@@ -82,31 +84,31 @@ fn objects_in_range(t: &[u8], c: Counts, m: &[u8]) -> bool
     true
 }
 
-fn ipdu_in_range(t: &[u8], c: Counts, m: &[u8], k: u32) -> bool
+fn ipdu_in_range(t: &[u8], c: Counts, m: &[u8], number: IpduNumber) -> bool
     requires { ⌜ Shape (now t) c ⌝ }
-    requires { ⌜ (memorySize ≤ length (now m)) × (k < c .ipdus) ⌝ }
-    ensures { λ b. ⌜ b ≡ ipduInRange (ipduOf (ipduRecord (now (t .entry)) k)) (ipduState (now (m .entry)) k) ⌝ }
+    requires { ⌜ (memorySize ≤ length (now m)) × (number .0 < c .ipdus) ⌝ }
+    ensures { λ b. ⌜ b ≡ ipduInRange (ipduOf (ipduRecord (now (t .entry)) (number .0))) (ipduState (now (m .entry)) (number .0)) ⌝ }
 {
-    let i = k as usize;
+    let i = number.0 as usize;
     if memory::read8(t, HEADER_SIZE + IPDU_SIZE * i) == SENDING {
-        if !request_in_range(t, c, m, k) {
+        if !request_in_range(t, c, m, number) {
             return false;
         }
-        return period_in_range(t, c, m, k);
+        return period_in_range(t, c, m, number);
     }
-    if !nothing_sent(m, k) {
+    if !nothing_sent(m, number) {
         return false;
     }
-    timer_in_range(t, c, m, k)
+    timer_in_range(t, c, m, number)
 }
 
 // Of a send I-PDU: the flags of a request, the delay, the deadline, and no timer.
-fn request_in_range(t: &[u8], c: Counts, m: &[u8], k: u32) -> bool
+fn request_in_range(t: &[u8], c: Counts, m: &[u8], number: IpduNumber) -> bool
     requires { ⌜ Shape (now t) c ⌝ }
-    requires { ⌜ (memorySize ≤ length (now m)) × (k < c .ipdus) ⌝ }
-    ensures { λ b. ⌜ b ≡ requestInRange (ipduOf (ipduRecord (now (t .entry)) k)) (ipduState (now (m .entry)) k) ⌝ }
+    requires { ⌜ (memorySize ≤ length (now m)) × (number .0 < c .ipdus) ⌝ }
+    ensures { λ b. ⌜ b ≡ requestInRange (ipduOf (ipduRecord (now (t .entry)) (number .0))) (ipduState (now (m .entry)) (number .0)) ⌝ }
 {
-    let i = k as usize;
+    let i = number.0 as usize;
     let a = HEADER_SIZE + IPDU_SIZE * i;
     let row = IPDU_ROWS + 16 * i;
     if 1 < memory::read8(m, row) {
@@ -125,12 +127,12 @@ fn request_in_range(t: &[u8], c: Counts, m: &[u8], k: u32) -> bool
 }
 
 // Of a send I-PDU: the period.
-fn period_in_range(t: &[u8], c: Counts, m: &[u8], k: u32) -> bool
+fn period_in_range(t: &[u8], c: Counts, m: &[u8], number: IpduNumber) -> bool
     requires { ⌜ Shape (now t) c ⌝ }
-    requires { ⌜ (memorySize ≤ length (now m)) × (k < c .ipdus) ⌝ }
-    ensures { λ b. ⌜ b ≡ periodInRange (ipduOf (ipduRecord (now (t .entry)) k)) (ipduState (now (m .entry)) k) ⌝ }
+    requires { ⌜ (memorySize ≤ length (now m)) × (number .0 < c .ipdus) ⌝ }
+    ensures { λ b. ⌜ b ≡ periodInRange (ipduOf (ipduRecord (now (t .entry)) (number .0))) (ipduState (now (m .entry)) (number .0)) ⌝ }
 {
-    let i = k as usize;
+    let i = number.0 as usize;
     let a = HEADER_SIZE + IPDU_SIZE * i;
     let row = IPDU_ROWS + 16 * i;
     let running = memory::read8(m, row + 2);
@@ -143,11 +145,11 @@ fn period_in_range(t: &[u8], c: Counts, m: &[u8], k: u32) -> bool
 }
 
 // Of a receive I-PDU: all that a send I-PDU has is 0.
-fn nothing_sent(m: &[u8], k: u32) -> bool
-    requires { ⌜ (memorySize ≤ length (now m)) × (k < mostIpdus) ⌝ }
-    ensures { λ b. ⌜ b ≡ nothingSent (ipduState (now (m .entry)) k) ⌝ }
+fn nothing_sent(m: &[u8], number: IpduNumber) -> bool
+    requires { ⌜ (memorySize ≤ length (now m)) × (number .0 < mostIpdus) ⌝ }
+    ensures { λ b. ⌜ b ≡ nothingSent (ipduState (now (m .entry)) (number .0)) ⌝ }
 {
-    let row = IPDU_ROWS + 16 * (k as usize);
+    let row = IPDU_ROWS + 16 * (number.0 as usize);
     if memory::read16(m, row) != 0 {
         return false;
     }
@@ -161,12 +163,12 @@ fn nothing_sent(m: &[u8], k: u32) -> bool
 }
 
 // Of a receive I-PDU: the timer.
-fn timer_in_range(t: &[u8], c: Counts, m: &[u8], k: u32) -> bool
+fn timer_in_range(t: &[u8], c: Counts, m: &[u8], number: IpduNumber) -> bool
     requires { ⌜ Shape (now t) c ⌝ }
-    requires { ⌜ (memorySize ≤ length (now m)) × (k < c .ipdus) ⌝ }
-    ensures { λ b. ⌜ b ≡ timerInRange (ipduOf (ipduRecord (now (t .entry)) k)) (ipduState (now (m .entry)) k) ⌝ }
+    requires { ⌜ (memorySize ≤ length (now m)) × (number .0 < c .ipdus) ⌝ }
+    ensures { λ b. ⌜ b ≡ timerInRange (ipduOf (ipduRecord (now (t .entry)) (number .0))) (ipduState (now (m .entry)) (number .0)) ⌝ }
 {
-    let i = k as usize;
+    let i = number.0 as usize;
     let a = HEADER_SIZE + IPDU_SIZE * i;
     let timer = memory::read16(m, IPDU_ROWS + 16 * i + 10);
     if timer <= memory::read16(t, a + 10) {
@@ -177,12 +179,19 @@ fn timer_in_range(t: &[u8], c: Counts, m: &[u8], k: u32) -> bool
 
 // `queue` is where its queue begins, as a word of the row has it. One comparison decides where the queue is empty at its first
 // place and the occurrence is 0.
-fn object_in_range(t: &[u8], c: Counts, m: &[u8], i: u32, depth: u32, queue: u64) -> bool
+fn object_in_range(
+    t: &[u8],
+    c: Counts,
+    m: &[u8],
+    number: ObjectNumber,
+    depth: u32,
+    queue: u64,
+) -> bool
     requires { ⌜ Shape (now t) c ⌝ }
-    requires { ⌜ (memorySize ≤ length (now m)) × (i < c .objects) × (depth ≡ objectRecord (now t) (c .ipdus) i .depth) × (queue % queueUnit ≡ 0) ⌝ }
-    ensures { λ b. ⌜ b ≡ objectInRange (objectRecord (now (t .entry)) (c .ipdus) i) (queue / queueUnit) (objectState (now (m .entry)) i) ⌝ }
+    requires { ⌜ (memorySize ≤ length (now m)) × (number .0 < c .objects) × (depth ≡ objectRecord (now t) (c .ipdus) (number .0) .depth) × (queue % queueUnit ≡ 0) ⌝ }
+    ensures { λ b. ⌜ b ≡ objectInRange (objectRecord (now (t .entry)) (c .ipdus) (number .0)) (queue / queueUnit) (objectState (now (m .entry)) (number .0)) ⌝ }
 {
-    let x = memory::read64(m, OBJECT_ROWS + 16 * (i as usize) + 8);
+    let x = memory::read64(m, OBJECT_ROWS + 16 * (number.0 as usize) + 8);
     let used = x & EMPTY;
     if used == queue {
         return true;
@@ -191,23 +200,23 @@ fn object_in_range(t: &[u8], c: Counts, m: &[u8], i: u32, depth: u32, queue: u64
     if fixed != queue {
         return false;
     }
-    used_in_range(t, c, m, i, depth)
+    used_in_range(t, c, m, number, depth)
 }
 
 // The queue's place and count, and the occurrence.
-fn used_in_range(t: &[u8], c: Counts, m: &[u8], i: u32, depth: u32) -> bool
+fn used_in_range(t: &[u8], c: Counts, m: &[u8], number: ObjectNumber, depth: u32) -> bool
     requires { ⌜ Shape (now t) c ⌝ }
-    requires { ⌜ (memorySize ≤ length (now m)) × (i < c .objects) × (depth ≡ objectRecord (now t) (c .ipdus) i .depth) ⌝ }
-    ensures { λ b. ⌜ b ≡ usedInRange (objectRecord (now (t .entry)) (c .ipdus) i) (objectState (now (m .entry)) i) ⌝ }
+    requires { ⌜ (memorySize ≤ length (now m)) × (number .0 < c .objects) × (depth ≡ objectRecord (now t) (c .ipdus) (number .0) .depth) ⌝ }
+    ensures { λ b. ⌜ b ≡ usedInRange (objectRecord (now (t .entry)) (c .ipdus) (number .0)) (objectState (now (m .entry)) (number .0)) ⌝ }
 {
-    let row = OBJECT_ROWS + 16 * (i as usize);
+    let row = OBJECT_ROWS + 16 * (number.0 as usize);
     if depth < memory::read8(m, row + 12) {
         return false;
     }
     if !head_in_range(depth, memory::read8(m, row + 11)) {
         return false;
     }
-    let a = HEADER_SIZE + IPDU_SIZE * (c.ipdus as usize) + OBJECT_SIZE * (i as usize);
+    let a = HEADER_SIZE + IPDU_SIZE * (c.ipdus as usize) + OBJECT_SIZE * (number.0 as usize);
     filter::count_in_range(
         memory::read8(t, a + 8),
         memory::read32(t, a + 16),

@@ -1,4 +1,4 @@
--- The tests of an object record's filter, place and use, in the order of the code: what each says of the fields. x, y and z are numbers that were read.
+-- The tests of an object record's filter, place, transfer property and depth, in the order of the code: what each says of the fields. x, y and z are numbers that were read.
 -- Assumes nothing.
 use mathlib.Core.Bool.{Bool, true, false, _&&_, _||_}
 use mathlib.Core.Logic.{⊎-elim}
@@ -17,7 +17,7 @@ use Rattle.filter.specs.Filters.{filterRight}
 use Rattle.filter.proofs.Laws.{no-constants}
 use Rattle.table.specs.declared.ObjectRecord.{ObjectRecord}
 use Rattle.table.specs.Records.{sending, absent}
-use Rattle.table.specs.Inner.{filterField, placeField, useFields}
+use Rattle.table.specs.Inner.{filterField, placeField, transferAndDepth}
 
 -- ---- the sender
 
@@ -107,12 +107,12 @@ module _ (r : ObjectRecord) (n : ℕ) {x : ℕ} (size : x ≡ r .size) where
 pub position-fits : {p x z n : ℕ} → p ≡ position Big z → z < 8 * n → n ≤ 8 → x ≤ 32 → p + x < 2 ^ 32
 position-fits {z = z} at inside short few = omega (arith, position-lt Big z (omega arith))
 
--- ---- the use
+-- ---- transfer property and depth
 
 module _ (r : ObjectRecord) {x : ℕ} (both : x ≡ r .transfer + 256 * r .depth) {k : ℕ} where
-  pub unused : 1 ≤ k → k ≤ 2 → x ≡ 0 → true ≡ useFields r k
-  unfolding useFields
-  unused least most zero =
+  pub neither : 1 ≤ k → k ≤ 2 → x ≡ 0 → true ≡ transferAndDepth r k
+  unfolding transferAndDepth
+  neither least most zero =
       let transfer : r .transfer ≡ 0 = omega arith in
       let depth : r .depth ≡ 0 = omega arith in
       rw (transfer, depth) (either (eqb k sending))
@@ -121,9 +121,9 @@ module _ (r : ObjectRecord) {x : ℕ} (both : x ≡ r .transfer + 256 * r .depth
       either true = refl
       either false = refl
 
-  pub sent-use : k ≡ sending → leb x 1 ≡ useFields r k
-  unfolding useFields
-  sent-use one =
+  pub sent-transfer : k ≡ sending → leb x 1 ≡ transferAndDepth r k
+  unfolding transferAndDepth
+  sent-transfer one =
       ⊎-elim
       (λ (h : 1 < x).
       ⊎-elim
@@ -133,6 +133,6 @@ module _ (r : ObjectRecord) {x : ℕ} (both : x ≡ r .transfer + 256 * r .depth
       (λ (h : x ≤ 1). rw (one, le-leb x 1 h, le-leb (r .transfer) 1 (omega arith), eq-eqb (r .depth) 0 (omega arith)))
       (lt-or-le 1 x)
 
-pub received-use : (r : ObjectRecord) {k y z : ℕ} → (k ≡ sending → ⊥) → y ≡ r .transfer → z ≡ r .depth → (eqb y 0 && leb z 16) ≡ useFields r k
-unfolding useFields
-received-use r {k} other transfer depth = rw (ne-eqb k sending other, transfer, depth)
+pub received-transfer : (r : ObjectRecord) {k y z : ℕ} → (k ≡ sending → ⊥) → y ≡ r .transfer → z ≡ r .depth → (eqb y 0 && leb z 16) ≡ transferAndDepth r k
+unfolding transferAndDepth
+received-transfer r {k} other transfer depth = rw (ne-eqb k sending other, transfer, depth)

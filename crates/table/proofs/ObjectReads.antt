@@ -20,5 +20,5 @@ module _ {x : ℕ} (a : ℕ) (t : List ℕ) where
   pub size-read : x ≡ numberAt 2 (a + 4) t → x ≡ objectRecordAt a t .size + 256 * objectRecordAt a t .order
   size-read e = omega (arith, number-split 1 1 (a + 4) (a + 5) t (omega arith))
 
-  pub use-read : x ≡ numberAt 2 (a + 6) t → x ≡ objectRecordAt a t .transfer + 256 * objectRecordAt a t .depth
-  use-read e = omega (arith, number-split 1 1 (a + 6) (a + 7) t (omega arith))
+  pub transfer-read : x ≡ numberAt 2 (a + 6) t → x ≡ objectRecordAt a t .transfer + 256 * objectRecordAt a t .depth
+  transfer-read e = omega (arith, number-split 1 1 (a + 6) (a + 7) t (omega arith))

@@ -18,7 +18,7 @@ use Rattle.table.specs.declared.References.{References}
 use Rattle.table.specs.Records.{sending, receiving, absent, ipduRecord, objectRecord}
 use Rattle.table.specs.Rules.{orderOf, references, sendObject, receiveObject, withoutIpdu, withinIpdu, senderRight, objectRight}
 use Rattle.table.specs.Check.{Shape}
-use Rattle.table.specs.Inner.{Filtered, IpdusRight, filterField, placeField, useFields}
+use Rattle.table.specs.Inner.{Filtered, IpdusRight, filterField, placeField, transferAndDepth}
 use Rattle.table.proofs.Facts.{object-facts, ByteFacts, byte-facts, Sent, Received, kind-facts, ipdu-facts, direction-known, or-right}
 
 -- ---- what the fields say
@@ -44,12 +44,12 @@ places r n e =
     each-true (leb 1 (r .size)) (leb (r .size) 32 ∷ leb (r .order) 1 ∷ room (orderOf (r .order)) (r .start) (r .size) n ∷ []) e in
     search leb-true
 
-sent : (r : ObjectRecord) → useFields r sending ≡ true → (r .transfer ≤ 1) × (r .depth ≡ 0)
-unfolding useFields
+sent : (r : ObjectRecord) → transferAndDepth r sending ≡ true → (r .transfer ≤ 1) × (r .depth ≡ 0)
+unfolding transferAndDepth
 sent r e = let both = and-split (leb (r .transfer) 1) (eqb (r .depth) 0) e in (leb-true _ _ (both .0), eqb-true _ _ (both .1))
 
-received : (r : ObjectRecord) → useFields r receiving ≡ true → (r .transfer ≡ 0) × (r .depth ≤ 16)
-unfolding useFields
+received : (r : ObjectRecord) → transferAndDepth r receiving ≡ true → (r .transfer ≡ 0) × (r .depth ≤ 16)
+unfolding transferAndDepth
 received r e = let both = and-split (eqb (r .transfer) 0) (leb (r .depth) 16) e in (eqb-true _ _ (both .0), leb-true _ _ (both .1))
 
 -- it lies outside any I-PDU
@@ -98,9 +98,9 @@ module _ (r : ObjectRecord) (x : References) where
       true-not-false all (tested-false e wrong))
 
   -- a right object uses what its kind may
-  uses-right : {z : ℕ} → r .kind ≡ z → objectRight r x ≡ true → useFields r z ≡ true
-  unfolding useFields
-  uses-right same f =
+  transfer-as-kind : {z : ℕ} → r .kind ≡ z → objectRight r x ≡ true → transferAndDepth r z ≡ true
+  unfolding transferAndDepth
+  transfer-as-kind same f =
       let fields = bytes f in
       ⊎-elim
       (λ (s : Sent r).
@@ -183,8 +183,8 @@ module _ (t : List ℕ) (c : Counts) (r : ObjectRecord) (shape : Shape t c) (ipd
         (rw (here, exists, ← own, eq-eqb (ipduRecord t k .direction) (r .kind) (omega arith), ← length) (placing .rooms))
         (rw (eq-eqb (r .sender) absent (omega arith)))
 
-    pub within-use : {u : Bool} → u ≡ useFields r z → u ≡ objectRight r (references t c r)
-    within-use {u} e =
+    pub within-transfer : {u : Bool} → u ≡ transferAndDepth r z → u ≡ objectRight r (references t c r)
+    within-transfer {u} e =
         ⊎-elim
         (λ (yes : u ≡ true).
         ⊎-elim
@@ -199,7 +199,7 @@ module _ (t : List ℕ) (c : Counts) (r : ObjectRecord) (shape : Shape t c) (ipd
         (accepted (omega (arith, fit .0)) (fit .1)
         (rw (ne-eqb (r .kind) sending (omega arith), eq-eqb (r .kind) receiving (omega arith), here, eq-eqb (r .sender) absent (omega arith), eq-eqb (r .transfer) 0 (fit .0)))))
         (kind-known t c ipdus low direction same))
-        (λ (wrong : u ≡ false). rw wrong (refused r (references t c r) (λ g. true-not-false (uses-right r (references t c r) (sym kind) g) (sym e ∙ wrong))))
+        (λ (wrong : u ≡ false). rw wrong (refused r (references t c r) (λ g. true-not-false (transfer-as-kind r (references t c r) (sym kind) g) (sym e ∙ wrong))))
         (true-or-false u)
 
 -- ---- outside any I-PDU
@@ -240,8 +240,8 @@ module _ (t : List ℕ) (c : Counts) (r : ObjectRecord) (high : c .ipdus ≤ r .
         refused r (references t c r) (λ f.
         ⊎-elim (λ (s : Sent r). not-sent (kind ∙ s .kind)) (λ (s : Received r). not-received (kind ∙ s .kind)) (kind-facts r (references t c r) f))
 
-    pub use-wrong : {u : Bool} → u ≡ useFields r k → not u ≡ true → false ≡ objectRight r (references t c r)
-    use-wrong e wrong = refused r (references t c r) (λ f. true-not-false (uses-right r (references t c r) (sym kind) f) (tested-false e wrong))
+    pub transfer-wrong : {u : Bool} → u ≡ transferAndDepth r k → not u ≡ true → false ≡ objectRight r (references t c r)
+    transfer-wrong e wrong = refused r (references t c r) (λ f. true-not-false (transfer-as-kind r (references t c r) (sym kind) f) (tested-false e wrong))
 
     module _ (f : Filtered r) {i : ℕ} (ipdu : i ≡ r .ipdu) (none : i ≡ absent) {b : ℕ} (start : b ≡ r .start) (zero : b ≡ 0)
         {y : ℕ} (whole : y ≡ r .size + 256 * r .order) (all : y ≡ 32) {s : ℕ} (sender : s ≡ r .sender) where
@@ -253,7 +253,7 @@ module _ (t : List ℕ) (c : Counts) (r : ObjectRecord) (high : c .ipdus ≤ r .
           right r (references t c r) f (omega arith) (omega arith) (omega arith) transfer depth kinds
           (rw (eq-eqb (r .ipdu) absent (omega arith), eq-eqb (r .start) 0 (omega arith), size, order)) from
 
-      pub sent-outside : {u : Bool} → k ≡ sending → s ≡ absent → u ≡ useFields r k → u ≡ objectRight r (references t c r)
+      pub sent-outside : {u : Bool} → k ≡ sending → s ≡ absent → u ≡ transferAndDepth r k → u ≡ objectRight r (references t c r)
       sent-outside {u} one alone e =
           ⊎-elim
           (λ (yes : u ≡ true).
@@ -263,10 +263,10 @@ module _ (t : List ℕ) (c : Counts) (r : ObjectRecord) (high : c .ipdus ≤ r .
           (rw (eq-eqb (r .kind) sending (omega arith), eq-eqb (r .sender) absent (omega arith), eq-eqb (r .depth) 0 (fit .1)))
           (rw (eq-eqb (r .sender) absent (omega arith)))))
           (λ (wrong : u ≡ false).
-          rw wrong (refused r (references t c r) (λ g. true-not-false (uses-right r (references t c r) (sym kind) g) (sym e ∙ wrong))))
+          rw wrong (refused r (references t c r) (λ g. true-not-false (transfer-as-kind r (references t c r) (sym kind) g) (sym e ∙ wrong))))
           (true-or-false u)
 
-      pub sender-decides : {u v : Bool} → (k ≡ sending → ⊥) → k ≡ receiving → u ≡ useFields r k → not u ≡ false
+      pub sender-decides : {u v : Bool} → (k ≡ sending → ⊥) → k ≡ receiving → u ≡ transferAndDepth r k → not u ≡ false
           → v ≡ (eqb s absent || eqb (pick (ltb s (c .objects)) (objectRecord t (c .ipdus) s .kind) 0) sending)
           → v ≡ objectRight r (references t c r)
       unfolding references

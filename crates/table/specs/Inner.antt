@@ -39,5 +39,5 @@ unfoldable pub placeField : ObjectRecord → ℕ → Bool
 placeField r length = leb 1 (r .size) && leb (r .size) 32 && leb (r .order) 1 && room (orderOf (r .order)) (r .start) (r .size) length
 
 -- transfer property and depth of an object of this kind
-unfoldable pub useFields : ObjectRecord → ℕ → Bool
-useFields r kind = pick (eqb kind sending) (leb (r .transfer) 1 && eqb (r .depth) 0) (eqb (r .transfer) 0 && leb (r .depth) 16)
+unfoldable pub transferAndDepth : ObjectRecord → ℕ → Bool
+transferAndDepth r kind = pick (eqb kind sending) (leb (r .transfer) 1 && eqb (r .depth) 0) (eqb (r .transfer) 0 && leb (r .depth) 16)

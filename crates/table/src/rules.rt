@@ -3,12 +3,15 @@
 use super::Counts;
 use super::HEADER_SIZE;
 use super::IPDU_SIZE;
+use super::IpduNumber;
 use super::MOST_IPDUS;
 use super::MOST_OBJECTS;
 use super::NONE;
 use super::OBJECT_SIZE;
 use super::RECEIVING;
 use super::SENDING;
+use bits::BitSize;
+use bits::ByteLength;
 use bits::Order;
 ghost use mathlib.Core.Bool.{_||_};
 ghost use mathlib.Core.Path.{_≡_};
@@ -19,7 +22,7 @@ ghost use Rattle.memory.specs.Search.{pick};
 ghost use Rattle.table.specs.Records.{sending, receiving, absent, ipduRecordAt, objectRecordAt, objectRecord};
 ghost use Rattle.table.specs.Rules.{offsetsRight, headerRight, ipduRight, orderOf, references, objectRight};
 ghost use Rattle.table.specs.Check.{Shape};
-ghost use Rattle.table.specs.Inner.{Begun, Filtered, IpdusRight, filterField, placeField, useFields};
+ghost use Rattle.table.specs.Inner.{Begun, Filtered, IpdusRight, filterField, placeField, transferAndDepth};
 
 // Whether the header is right, for a slice of any length.
 pub fn header_right(t: &[u8]) -> bool
@@ -144,7 +147,7 @@ pub fn object_right(t: &[u8], c: Counts, a: usize) -> bool
     let k = memory::read8(t, a + 1);
     let n = c.ipdus;
     if k < n {
-        return within_ipdu(t, c, a, k);
+        return within_ipdu(t, c, a, IpduNumber(k));
     }
     without_ipdu(t, c, a)
 }
@@ -161,14 +164,14 @@ fn filter_right(t: &[u8], a: usize) -> bool
     filter::filter_right(number, memory::read32(t, a + 16), memory::read32(t, a + 20))
 }
 
-// An object of I-PDU k.
-fn within_ipdu(t: &[u8], c: Counts, a: usize, k: u32) -> bool
+// An object of this I-PDU.
+fn within_ipdu(t: &[u8], c: Counts, a: usize, number: IpduNumber) -> bool
     requires { ⌜ Shape (now t) c ⌝ }
     requires { ⌜ IpdusRight (now t) c ⌝ }
-    requires { ⌜ (a + 32 ≤ length (now t)) × Filtered (objectRecordAt a (now t)) × (k ≡ objectRecordAt a (now t) .ipdu) × (k < c .ipdus) ⌝ }
+    requires { ⌜ (a + 32 ≤ length (now t)) × Filtered (objectRecordAt a (now t)) × (number .0 ≡ objectRecordAt a (now t) .ipdu) × (number .0 < c .ipdus) ⌝ }
     ensures { λ b. ⌜ b ≡ objectRight (objectRecordAt a (now (t .entry))) (references (now (t .entry)) c (objectRecordAt a (now (t .entry)))) ⌝ }
 {
-    let p = HEADER_SIZE + IPDU_SIZE * (k as usize);
+    let p = HEADER_SIZE + IPDU_SIZE * (number.0 as usize);
     let kind = memory::read8(t, a);
     if memory::read8(t, p) != kind {
         return false;
@@ -176,29 +179,30 @@ fn within_ipdu(t: &[u8], c: Counts, a: usize, k: u32) -> bool
     if memory::read8(t, a + 2) != NONE {
         return false;
     }
-    if !place_right(t, a, memory::read8(t, p + 1)) {
+    if !place_right(t, a, ByteLength(memory::read8(t, p + 1))) {
         return false;
     }
-    use_right(t, a, kind)
+    transfer_right(t, a, kind)
 }
 
-// The bits of an object in an I-PDU of so many bytes.
-fn place_right(t: &[u8], a: usize, bytes: u32) -> bool
-    requires { ⌜ (a + 32 ≤ length (now t)) × (bytes ≤ 8) ⌝ }
-    ensures { λ b. ⌜ b ≡ placeField (objectRecordAt a (now (t .entry))) bytes ⌝ }
+// The bits of an object in an I-PDU of this length.
+fn place_right(t: &[u8], a: usize, bytes: ByteLength) -> bool
+    requires { ⌜ (a + 32 ≤ length (now t)) × (bytes .0 ≤ 8) ⌝ }
+    ensures { λ b. ⌜ b ≡ placeField (objectRecordAt a (now (t .entry))) (bytes .0) ⌝ }
 {
-    let size = memory::read8(t, a + 4);
-    if size < 1 {
+    let size = BitSize(memory::read8(t, a + 4));
+    let bits = size.0;
+    if bits < 1 {
         return false;
     }
-    if 32 < size {
+    if 32 < bits {
         return false;
     }
     let start = memory::read8(t, a + 3);
     let order = memory::read8(t, a + 5);
-    let end = 8 * bytes;
+    let end = 8 * bytes.0;
     if order == 0 {
-        return start + size <= end;
+        return start + bits <= end;
     }
     if order != 1 {
         return false;
@@ -206,13 +210,13 @@ fn place_right(t: &[u8], a: usize, bytes: u32) -> bool
     if end <= start {
         return false;
     }
-    bits::position(Order::Big, start) + size <= 64
+    bits::position(Order::Big, start) + bits <= 64
 }
 
 // The transfer property of a send object, which has no queue, and the queue of a receive object, which has no such property.
-fn use_right(t: &[u8], a: usize, kind: u32) -> bool
+fn transfer_right(t: &[u8], a: usize, kind: u32) -> bool
     requires { ⌜ (a + 32 ≤ length (now t)) × (1 ≤ kind) × (kind ≤ 2) ⌝ }
-    ensures { λ b. ⌜ b ≡ useFields (objectRecordAt a (now (t .entry))) kind ⌝ }
+    ensures { λ b. ⌜ b ≡ transferAndDepth (objectRecordAt a (now (t .entry))) kind ⌝ }
 {
     let both = memory::read16(t, a + 6);
     if both == 0 {
@@ -245,12 +249,12 @@ fn without_ipdu(t: &[u8], c: Counts, a: usize) -> bool
         if sender != NONE {
             return false;
         }
-        return use_right(t, a, kind);
+        return transfer_right(t, a, kind);
     }
     if kind != RECEIVING {
         return false;
     }
-    if !use_right(t, a, kind) {
+    if !transfer_right(t, a, kind) {
         return false;
     }
     sender_right(t, c, sender)

@@ -12,6 +12,7 @@ nothing-sent-spec =
     (tie.spec
     (λ c. search needs)
     (λ c. search needs)
+    (λ c. search needs)
     (λ c κs. search needs)
     (λ c. search (needs, flags-some, flags-read))
     (λ c. search needs) (λ c κs. search needs)

@@ -13,20 +13,21 @@ object-in-range-spec =
     (λ c. search needs)
     (λ c. search needs)
     (λ c. search needs)
+    (λ c. search needs)
     (λ c κs. search needs)
     (λ c.
-    let at-known = c .before .before in
+    let at-known = c .before .before .before in
     let at-start = at-known .before .before in
     let memory : Bytes (at-start .args .m .now) = λ i. at-known .shared-slice-known2 .given i .fits in
     search (needs, empty-in-range))
     (λ c.
-    let at-known = c .before .before .before in
+    let at-known = c .before .before .before .before in
     let at-start = at-known .before .before in
     let memory : Bytes (at-start .args .m .now) = λ i. at-known .shared-slice-known2 .given i .fits in
     search (needs, fixed-out))
     (λ c κs. search needs)
     (λ c.
-    let at-known = c .before .before .before .before in
+    let at-known = c .before .before .before .before .before in
     let at-start = at-known .before .before in
     let memory : Bytes (at-start .args .m .now) = λ i. at-known .shared-slice-known2 .given i .fits in
     search (needs, used-decides)))

@@ -14,6 +14,7 @@ request-in-range-spec =
     (λ c. search needs)
     (λ c. search needs)
     (λ c. search needs)
+    (λ c. search needs)
     (λ c κs. search needs)
     (λ c. search (needs, requested-past, requested-read))
     (λ c. search needs) (λ c κs. search needs)

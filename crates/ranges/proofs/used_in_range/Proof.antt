@@ -12,11 +12,13 @@ used-in-range-spec =
     (tie.spec
     (λ c. search needs)
     (λ c. search needs)
+    (λ c. search needs)
     (λ c. search needs) (λ c κs. search needs)
     (λ c. search (needs, count-past, count-read))
     (λ c. search needs) (λ c κs. search needs)
     (λ c κs. search needs)
     (λ c. search (needs, head-out, count-read, head-read))
+    (λ c. search needs)
     (λ c. search needs)
     (λ c. search needs)
     (λ c. search needs)

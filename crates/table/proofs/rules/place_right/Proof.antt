@@ -21,6 +21,7 @@ place-right-spec =
     (λ c. search (needs, outside))
     (λ c κs. search needs)
     (λ c.
-    let at-size = c .before .before .before .before .before .before in
-    record { fits = position-fits (c .position .ensures) (c .before .if5 .left) (at-size .before .before .before .before .pre .1) (at-size .if2 .left) })
+    let at-size = c .before .before .before .before .before .before .before in
+    let at-start = at-size .before .before .before .before in
+    record { fits = position-fits (c .position .ensures) (c .before .if5 .left) (at-start .pre .1) (at-size .if2 .left) })
     (λ c. search (needs, big-room)))

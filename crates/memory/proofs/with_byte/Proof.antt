@@ -1,4 +1,4 @@
--- `memory::put`: the byte stands above the bits below it, and no bit is lost.
+-- `memory::with_byte`: the byte stands above the bits below it, and no bit is lost.
 -- Assumes nothing.
 use mathlib.Core.Path.{_≡_}
 use Prim.Native.Nat.{ℕ, _+_, _*_, _%_, _^_, _≤_, _<_}
@@ -7,8 +7,8 @@ use native.Mathlib.Omega.{arith}
 use borrow.Author.Needs.{needs}
 use lib.Bits.{bitOr, or-shifted-r, or-lt}
 use lib.Pow.{shl-exact, shl-lt, pow-mono}
-use Rattle.memory.proofs.put.Statement.{statement}
-use Rattle.memory.proofs.put.Tie as tie
+use Rattle.memory.proofs.with_byte.Statement.{statement}
+use Rattle.memory.proofs.with_byte.Tie as tie
 
 module _ (below x at : ℕ) (room : at ≤ 56) (byte : x < 256) (low : below < 2 ^ at) where
   above : bitOr below ((x * 2 ^ at) % 2 ^ 64) ≡ x * 2 ^ at + below
@@ -26,5 +26,5 @@ returns c =
     let byte : a .x < 256 = omega arith in
     (above (a .below) (a .x) (a .at) (c .pre .0) byte (c .pre .1), bound (a .below) (a .x) (a .at) (c .pre .0) byte (c .pre .1))
 
-pub put-spec : {M : Type 1} → statement M
-put-spec = tie.close (tie.spec (λ c. search needs) returns)
+pub with-byte-spec : {M : Type 1} → statement M
+with-byte-spec = tie.close (tie.spec (λ c. search needs) returns)
