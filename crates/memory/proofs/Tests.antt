@@ -43,6 +43,11 @@ pub true-or-false : (b : Bool) → (b ≡ true) ⊎ (b ≡ false)
 true-or-false true = inl refl
 true-or-false false = inr refl
 
+-- what cannot be true is false
+pub never-true : (b : Bool) → (b ≡ true → ⊥) → false ≡ b
+never-true true never = absurd (never refl)
+never-true false never = refl
+
 pub or-cases : (a b : Bool) → (a || b) ≡ true → (a ≡ true) ⊎ (b ≡ true)
 or-cases true b e = inl refl
 or-cases false b e = inr e

@@ -1,23 +1,23 @@
 -- Bytes 8 to 15 of an object's row as one word, under the two masks of the code: what each comparison says of `objectInRange`.
 -- Assumes nothing.
 use mathlib.Core.Bool.{Bool, true, false, _&&_}
-use mathlib.Core.List.{List, [], _∷_}
+use mathlib.Core.List.{List}
 use mathlib.Core.Logic.{⊎-elim}
 use mathlib.Core.Path.{_≡_, refl, sym, _∙_}
-use Prim.Native.Nat.{ℕ, _+_, _-_, _*_, _/_, _%_, _≤_, _<_, zero-le}
+use Prim.Native.Nat.{ℕ, _+_, _-_, _*_, _/_, _%_, _≤_, _<_}
 use native.Mathlib.Omega.{arith}
-use borrow.Author.Tests.{eqb-true, leb-true, eq-eqb, le-leb}
+use borrow.Author.Tests.{eq-eqb, le-leb}
 use lib.Bits.{bitAnd, and-zero-r, and-mask, and-high}
-use lib.Dec.{leb, eqb}
+use lib.Dec.{leb}
 use Rattle.memory.specs.Bytes.{Bytes, numberAt}
 use Rattle.memory.proofs.Joined.{number-split, masked-byte}
 use Rattle.memory.proofs.Parts.{number-lt}
-use Rattle.memory.proofs.Tests.{each-true, true-or-false, lt-or-le}
-use Rattle.filter.specs.Filters.{greatestCount}
+use Rattle.memory.proofs.Tests.{never-true, lt-or-le}
 use Rattle.table.specs.declared.ObjectRecord.{ObjectRecord}
-use Rattle.table.specs.Rules.{recordFilter}
 use Rattle.state.specs.Layout.{objectRow, objectState}
 use Rattle.state.specs.Ranges.{objectInRange}
+use Rattle.state.proofs.RowLaws.{object-fits}
+use Rattle.state.proofs.Ready.{object-kept, kept-object}
 use Rattle.ranges.specs.Inner.{queueUnit, usedInRange}
 
 and-true : (a : Bool) → (a && true) ≡ a
@@ -124,46 +124,33 @@ module _ (m : List ℕ) (bs : Bytes m) (i : ℕ) {x : ℕ} (read : x ≡ numberA
 
     -- nothing queued, at the queue's first place, and an occurrence of 0
     pub empty-in-range : bitAnd x 18446463698244399359 ≡ q → true ≡ objectInRange r (q / queueUnit) (objectState m i)
-    unfolding objectInRange objectState
+    unfolding objectState
     empty-in-range e =
         let halves =
         split-48
         (numberAt 1 (objectRow i + 8) m + 4096 * (numberAt 1 (objectRow i + 9) m / 16) + 131072 * (numberAt 1 (objectRow i + 10) m / 2)
         + 16777216 * numberAt 1 (objectRow i + 11) m + 4294967296 * numberAt 1 (objectRow i + 12) m)
         (numberAt 2 (objectRow i + 14) m) (q / queueUnit) (omega (arith, byte 8, byte 9, byte 10, byte 11, byte 12)) (sym used ∙ e ∙ same) in
-        let occurrence : numberAt 1 (objectRow i + 8) m ≡ 0 = omega (arith, halves .0) in
-        let marks : numberAt 1 (objectRow i + 9) m ≤ 15 = omega (arith, halves .0) in
-        let overflow : numberAt 1 (objectRow i + 10) m ≤ 1 = omega (arith, halves .0) in
-        let head : numberAt 1 (objectRow i + 11) m ≡ 0 = omega (arith, halves .0) in
-        let count : numberAt 1 (objectRow i + 12) m ≡ 0 = omega (arith, halves .0) in
-        rw (
-          le-leb (numberAt 1 (objectRow i + 9) m) 15 marks,
-          le-leb (numberAt 1 (objectRow i + 10) m) 1 overflow,
-          head,
-          count,
-          le-leb 0 (r .depth) zero-le,
-          le-leb 0 (r .depth - 1) zero-le,
-          eq-eqb (numberAt 2 (objectRow i + 14) m) (q / queueUnit) (halves .1),
-          occurrence,
-          le-leb 0 (greatestCount (recordFilter r)) zero-le,
-        )
+        let fits = object-fits m i bs in
+        sym
+        (kept-object r (q / queueUnit) (objectState m i)
+        (record {
+          value = fits .value;
+          old = fits .old;
+          occurrence = omega (arith, halves .0);
+          marks = omega (arith, halves .0);
+          overflow = omega (arith, halves .0);
+          count = omega (arith, halves .0);
+          head = omega (arith, halves .0);
+          queue = halves .1;
+        }))
 
     -- marks, overflow and queue, which are as they must be or not whatever the depth and the filter
     pub fixed-out : (bitAnd x 18446462598749548544 ≡ q → ⊥) → false ≡ objectInRange r (q / queueUnit) (objectState m i)
-    unfolding objectInRange
     fixed-out other =
-        ⊎-elim
-        (λ (e : objectInRange r (q / queueUnit) (objectState m i) ≡ true).
-        let all =
-        each-true (leb (objectState m i .marks) 15)
-        (leb (objectState m i .overflow) 1 ∷ leb (objectState m i .count) (r .depth) ∷ leb (objectState m i .head) (r .depth - 1) ∷ eqb (objectState m i .queue) (q / queueUnit)
-        ∷ leb (objectState m i .occurrence) (greatestCount (recordFilter r)) ∷ []) e in
-        let marks = leb-true (objectState m i .marks) 15 (all .0) in
-        let overflow = leb-true (objectState m i .overflow) 1 (all .1 .0) in
-        let queue = eqb-true (objectState m i .queue) (q / queueUnit) (all .1 .1 .1 .1 .0) in
-        absurd (other (omega (arith, same, fixed, marks, overflow, queue))))
-        sym
-        (true-or-false (objectInRange r (q / queueUnit) (objectState m i)))
+        never-true (objectInRange r (q / queueUnit) (objectState m i)) (λ e.
+        let kept = object-kept r (q / queueUnit) (objectState m i) (object-fits m i bs) e in
+        other (omega (arith, same, fixed, kept .marks, kept .overflow, kept .queue)))
 
     pub used-decides : {b : Bool} → bitAnd x 18446462598749548544 ≡ q → b ≡ usedInRange r (objectState m i)
         → b ≡ objectInRange r (q / queueUnit) (objectState m i)

@@ -42,7 +42,7 @@ pub record ObjectKept (r : ObjectRecord) (first : ℕ) (s : ObjectState) : Type 
   pub head : s .head ≤ r .depth - 1
   pub queue : s .queue ≡ first
 
-object-kept : (r : ObjectRecord) (first : ℕ) (s : ObjectState) → ObjectFits s → objectInRange r first s ≡ true → ObjectKept r first s
+pub object-kept : (r : ObjectRecord) (first : ℕ) (s : ObjectState) → ObjectFits s → objectInRange r first s ≡ true → ObjectKept r first s
 unfolding objectInRange
 object-kept r first s f e =
     let all =

@@ -2,12 +2,12 @@
 -- Assumes nothing.
 use mathlib.Core.Bool.{true, false, not, _&&_, _||_}
 use mathlib.Core.Logic.{⊎-elim}
-use mathlib.Core.Path.{_≡_, sym, _∙_}
+use mathlib.Core.Path.{_≡_, _∙_}
 use Prim.Native.Nat.{ℕ, _+_, _*_, _≤_, _<_}
 use native.Mathlib.Omega.{arith}
 use borrow.Author.Tests.{eqb-true, leb-true, eq-eqb, ne-eqb, le-leb}
 use lib.Dec.{leb, eqb}
-use Rattle.memory.proofs.Tests.{and-split, or-cases, true-or-false, eq-or-ne}
+use Rattle.memory.proofs.Tests.{and-split, or-cases, eq-or-ne, never-true}
 use Rattle.table.specs.declared.IpduRecord.{IpduRecord}
 use Rattle.table.specs.Records.{sending, receiving}
 use Rattle.table.specs.Rules.{ipduRight}
@@ -16,7 +16,7 @@ use Rattle.table.proofs.Facts.{ipdu-facts, direction-known, SendFacts, 
 
 module _ (r : IpduRecord) where
   refused : (ipduRight r ≡ true → ⊥) → false ≡ ipduRight r
-  refused never = ⊎-elim (λ e. absurd (never e)) sym (true-or-false (ipduRight r))
+  refused = never-true (ipduRight r)
 
   pub no-length : {x : ℕ} → x ≡ r .length → x < 1 → false ≡ ipduRight r
   no-length e h = refused (λ f. omega (arith, ipdu-facts r f .least))

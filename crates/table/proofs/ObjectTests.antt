@@ -9,7 +9,7 @@ use native.Mathlib.Omega.{arith}
 use borrow.Author.Tests.{eqb-true, leb-true, eq-eqb, ne-eqb, le-leb, lt-ltb, le-ltb}
 use lib.Dec.{leb, ltb, eqb}
 use Rattle.memory.specs.Search.{pick}
-use Rattle.memory.proofs.Tests.{and-split, each-true, or-cases, true-or-false, true-not-false, tested-true, tested-false}
+use Rattle.memory.proofs.Tests.{and-split, each-true, or-cases, true-or-false, true-not-false, tested-true, tested-false, never-true}
 use Rattle.bits.specs.Bits.{room}
 use Rattle.filter.specs.Filters.{filterRight}
 use Rattle.table.specs.declared.Counts.{Counts}
@@ -61,7 +61,7 @@ record Outside (r : ObjectRecord) : Type 0 where
 
 module _ (r : ObjectRecord) (x : References) where
   refused : (objectRight r x ≡ true → ⊥) → false ≡ objectRight r x
-  refused never = ⊎-elim (λ e. absurd (never e)) sym (true-or-false (objectRight r x))
+  refused = never-true (objectRight r x)
 
   bytes : objectRight r x ≡ true → ByteFacts r
   bytes f = byte-facts r (object-facts r x f .bytes)
