@@ -1,12 +1,18 @@
 // The interaction layer: the calls of document 01 over a table and a working memory that the caller lends. Each checks table,
 // memory and numbers itself; a refused one changes no byte.
 mod checks;
+mod objects;
 mod starting;
 
 pub use calls::Answer;
 pub use calls::number_of;
 pub use calls::value_of;
 pub use checks::admit;
+pub use objects::clear_marks_admitted;
+pub use objects::marks_admitted;
+pub use objects::receive_admitted;
+pub use objects::refusal;
+pub use objects::status_admitted;
 pub use starting::start;
 pub use state::AREA_SIZE;
 pub use state::MEMORY_SIZE;
@@ -22,6 +28,13 @@ ghost use Rattle.layer.specs.Step.{start, stop, send, initialise, receiv
 pub enum Admission {
     Admitted(Counts),
     Refused(Answer),
+}
+
+// A number of document 01 and what is returned with it.
+#[repr(C)]
+pub struct Reply {
+    pub number: u32,
+    pub value: u32,
 }
 
 // Notes that the layer is stopped.

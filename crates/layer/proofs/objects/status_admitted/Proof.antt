@@ -1,0 +1,22 @@
+-- `layer::objects::status_admitted`: the call goes on, so it does its own part.
+-- Assumes nothing.
+use mathlib.Core.Path.{refl}
+use borrow.Author.Needs.{needs}
+use Rattle.layer.specs.Promises.{statusRead}
+use Rattle.layer.proofs.GoesOn.{goes-header, goes-exact, goes-ready, goes-reads}
+use Rattle.layer.specs.Step.{status}
+use Rattle.layer.proofs.objects.status_admitted.Statement.{statement}
+use Rattle.layer.proofs.objects.status_admitted.Tie as tie
+
+pub status-admitted-spec : {M : Type 1} → statement M
+unfolding statusRead
+status-admitted-spec =
+    tie.close
+    (tie.spec
+    (λ c κs. search (needs, goes-header))
+    (λ c. search (needs, goes-exact))
+    (λ c κs. search (needs, goes-ready))
+    (λ c κs. search needs)
+    (λ c.
+    let i = c .before .before .before .before .before .before .args .object in
+    search (needs, goes-reads (status i) refl refl)))
