@@ -6,6 +6,7 @@ use mathlib.Core.Path.{_≡_, refl, sym, ap, _∙_}
 use Prim.Native.Nat.{ℕ, _+_, _≤_}
 use native.Mathlib.Omega.{arith}
 use lib.ListN.{length, drop}
+use Rattle.memory.specs.Texts.{lineFeed, digitOf, Put}
 use Rattle.table.specs.declared.Counts.{Counts}
 use Rattle.state.specs.Layout.{memorySize, areaSize}
 use Rattle.state.specs.Ranges.{Ready}
@@ -17,8 +18,7 @@ use Rattle.layer.specs.Admission.{Admits, workingMemory, onWorkingMemory}
 use Rattle.layer.specs.Step.{start, step}
 use Rattle.layer.proofs.Admitted.{on-working-memory}
 use Rattle.script.specs.declared.Command.{Command}
-use Rattle.script.specs.Text.{digitOf, lineFeed}
-use Rattle.report.specs.Printing.{lends, answerLine, Put, longestLine}
+use Rattle.report.specs.Printing.{lends, answerLine, longestLine}
 use Rattle.report.proofs.StatusLines.{answer-length}
 use Rattle.commands.specs.declared.Ground.{Ground}
 use Rattle.commands.specs.declared.Ground.the-variants.{Known}

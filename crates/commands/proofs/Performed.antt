@@ -13,6 +13,7 @@ use lib.ListN.{length, drop}
 use lib.Seq.{getD-take}
 use Rattle.memory.specs.Bytes.{Bytes, numberAt}
 use Rattle.memory.specs.Search.{pick}
+use Rattle.memory.specs.Texts.{lineFeed, digitOf}
 use Rattle.memory.proofs.Search.{picked}
 use Rattle.memory.proofs.Parts.{number-one}
 use Rattle.memory.proofs.Tests.{and-false}
@@ -42,7 +43,6 @@ use Rattle.script.specs.declared.Ask.{Ask}
 use Rattle.script.specs.declared.Ask.the-variants.{Receive, Status, Marks, ClearMarks}
 use Rattle.script.specs.declared.Command.{Command}
 use Rattle.script.specs.declared.Command.the-variants.{Start, Stop, Send, Initialise, Object, Periodic, Indication, Confirm, Tick}
-use Rattle.script.specs.Text.{digitOf, lineFeed}
 use Rattle.report.specs.Printing.{lends, answerLine}
 use Rattle.report.proofs.StatusLines.{status-line, start-line}
 use Rattle.commands.specs.declared.Ground.{Ground}

@@ -5,6 +5,7 @@ use mathlib.Core.List.{List}
 use mathlib.Core.Path.{_≡_}
 use Prim.Native.Nat.{ℕ, _≤_}
 use lib.ListN.{length}
+use Rattle.memory.specs.Texts.{Put}
 use Rattle.table.specs.declared.Counts.{Counts}
 use Rattle.table.specs.declared.Verdict.the-variants.{Accepted}
 use Rattle.table.specs.Check.{check}
@@ -14,7 +15,7 @@ use Rattle.calls.specs.Answers.{Outcome}
 use Rattle.layer.specs.Admission.{workingMemory, onWorkingMemory}
 use Rattle.script.specs.declared.Command.{Command}
 use Rattle.script.specs.declared.Command.the-variants.{Start, Stop, Send, Initialise, Object, Periodic, Indication, Confirm, Tick}
-use Rattle.report.specs.Printing.{Put, answerLine}
+use Rattle.report.specs.Printing.{answerLine}
 use Rattle.commands.specs.declared.Ground.{Ground}
 use Rattle.commands.specs.declared.Ground.the-variants.{Known, Unknown}
 use Rattle.script_run.specs.Script.{effect, own}

@@ -6,6 +6,7 @@ use Prim.Native.Nat.{ℕ, _+_, _≤_}
 use native.Mathlib.Omega.{arith}
 use lib.ListN.{length, take, drop}
 use lib.Seq.{sets, sets-eq, take-append-seam}
+use Rattle.memory.specs.Texts.{Put}
 use Rattle.script.specs.declared.Command.{Command}
 use Rattle.script.specs.declared.Frame.{Frame}
 use Rattle.script.specs.declared.Reader.{Reader}
@@ -13,7 +14,7 @@ use Rattle.script.specs.declared.Reading.{Reading}
 use Rattle.script.specs.declared.Reading.the-variants.{Readable, Unreadable}
 use Rattle.script.specs.Reader.{fresh, commandOf, frameOf, bytesDown, frameBytes}
 use Rattle.script.proofs.BytesDown.{down-length}
-use Rattle.report.specs.Printing.{Put, refusalLine, longestLine}
+use Rattle.report.specs.Printing.{refusalLine, longestLine}
 use Rattle.report.proofs.StatusLines.{refusal-length}
 use Rattle.commands.specs.declared.Ground.{Ground}
 use Rattle.script.specs.declared.Progress.{Progress}

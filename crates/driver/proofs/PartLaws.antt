@@ -10,15 +10,15 @@ use lib.Dec.{ltb, leb, eqb}
 use lib.ListN.{length, take, drop, getD, length-drop}
 use lib.Seq.{take-suc, getD-drop}
 use Rattle.memory.specs.Search.{pick}
+use Rattle.memory.specs.Texts.{lineFeed, Put}
 use Rattle.memory.proofs.Tests.{lt-or-le}
+use Rattle.memory.proofs.Puts.{put-none}
 use Rattle.calls.specs.declared.Answer.{Answer}
 use Rattle.calls.specs.Answers.{Outcome, outcome}
 use Rattle.layer.specs.Step.{start, stop, step}
 use Rattle.script.specs.declared.Reader.{Reader}
-use Rattle.script.specs.Text.{lineFeed}
 use Rattle.script.specs.Reader.{next}
-use Rattle.report.specs.Printing.{Put, refusalLine, longestLine}
-use Rattle.report.proofs.Puts.{put-none}
+use Rattle.report.specs.Printing.{refusalLine, longestLine}
 use Rattle.report.proofs.StatusLines.{refusal-length}
 use Rattle.script.specs.declared.Progress.{Progress}
 use Rattle.script_run.specs.Script.{begun}

@@ -11,12 +11,12 @@ use lib.Dec.{ltb, leb}
 use lib.ListN.{length, take, drop, getD}
 use lib.Seq.{take-suc, take-add}
 use Rattle.memory.specs.Search.{pick}
+use Rattle.memory.specs.Texts.{lineFeed, Put}
 use Rattle.memory.proofs.Search.{picked}
 use Rattle.memory.proofs.Tests.{and-split, true-or-false}
+use Rattle.memory.proofs.Puts.{put-append}
 use Rattle.script.specs.declared.Reader.{Reader}
-use Rattle.script.specs.Text.{lineFeed}
-use Rattle.report.specs.Printing.{Put, longestLine}
-use Rattle.report.proofs.Puts.{put-append}
+use Rattle.report.specs.Printing.{longestLine}
 use Rattle.commands.specs.declared.Ground.{Ground}
 use Rattle.script.specs.declared.Progress.{Progress}
 use Rattle.driver.specs.declared.Reached.{Reached}

@@ -6,9 +6,9 @@ use mathlib.Core.Logic.{_⊎_}
 use mathlib.Core.Path.{_≡_}
 use Prim.Native.Nat.{ℕ, _+_, _-_, _≤_, _<_}
 use lib.ListN.{length, getD, take, drop}
+use Rattle.memory.specs.Texts.{lineFeed, Put}
 use Rattle.script.specs.declared.Reader.{Reader}
-use Rattle.script.specs.Text.{lineFeed}
-use Rattle.report.specs.Printing.{Put, longestLine}
+use Rattle.report.specs.Printing.{longestLine}
 use Rattle.commands.specs.declared.Ground.{Ground}
 use Rattle.driver.specs.declared.Part.{Part}
 use Rattle.script.specs.declared.Progress.{Progress}

@@ -1,4 +1,11 @@
 // Little-endian numbers in lent bytes, and bytes cleared. Every caller has checked that the bytes are there.
+mod texts;
+
+pub use texts::BLANK;
+pub use texts::put_decimal;
+pub use texts::put_digit;
+pub use texts::put_line_feed;
+pub use texts::put_number;
 ghost use mathlib.Core.Path.{_≡_};
 ghost use Prim.Native.Nat.{_+_, _*_, _≤_, _<_, _^_};
 ghost use lib.ListN.{length, replicate};

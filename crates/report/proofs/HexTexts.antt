@@ -8,9 +8,9 @@ use native.Mathlib.Omega.{arith}
 use lib.ListN.{length, getD, set, take, drop, length-take, length-drop}
 use lib.Seq.{take-suc, getD-drop}
 use Rattle.memory.specs.Bytes.{part}
+use Rattle.memory.specs.Texts.{Put}
+use Rattle.memory.proofs.Puts.{put-append, put-none, put-byte, put-one, put-as}
 use Rattle.script.specs.Text.{hexDigitOf, hex}
-use Rattle.report.specs.Printing.{Put}
-use Rattle.report.proofs.Puts.{put-append, put-none, put-byte, put-one, put-as}
 
 hex-append : (a b : List ℕ) → hex (a ++ b) ≡ hex a ++ hex b
 hex-append [] b = refl

@@ -14,17 +14,19 @@ use lib.ListN.{length, set, length-append}
 use lib.Pow.{shr-shr}
 use Rattle.memory.specs.Bytes.{part}
 use Rattle.memory.specs.Search.{pick}
+use Rattle.memory.specs.Texts.{lineFeed, decimal, numberField, Put}
 use Rattle.memory.proofs.Tests.{and-split, eq-or-ne, lt-or-le}
 use Rattle.memory.proofs.Search.{picked}
+use Rattle.memory.proofs.Decimals.{decimal-short}
+use Rattle.memory.proofs.Puts.{put-append, put-none, put-byte, put-length}
 use Rattle.table.specs.declared.Counts.{Counts}
 use Rattle.table.specs.declared.IpduRecord.{IpduRecord}
 use Rattle.table.specs.Records.{ipduRecord}
 use Rattle.table.specs.Check.{Right}
 use Rattle.table.proofs.Facts.{ipdu-facts}
-use Rattle.script.specs.Text.{lineFeed, numberField, decimal, hex}
-use Rattle.script.proofs.Decimals.{decimal-short}
-use Rattle.report.specs.Printing.{Put, InTable, requestText, requestTexts}
-use Rattle.report.proofs.Puts.{put-append, put-none, put-byte, put-four, put-length, withFour, four-length}
+use Rattle.script.specs.Text.{hex}
+use Rattle.report.specs.Printing.{InTable, requestText, requestTexts}
+use Rattle.report.proofs.Puts.{put-four, withFour, four-length}
 use Rattle.report.proofs.HexTexts.{hex-part-length}
 
 -- ---- an I-PDU of the table

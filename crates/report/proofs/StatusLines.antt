@@ -8,6 +8,8 @@ use native.Mathlib.Omega.{arith}
 use borrow.Author.Tests.{ne-eqb}
 use lib.Dec.{eqb}
 use lib.ListN.{length, length-append}
+use Rattle.memory.specs.Texts.{lineFeed, digitOf, numberField, Put}
+use Rattle.memory.proofs.Decimals.{decimal-length}
 use Rattle.table.specs.declared.Counts.{Counts}
 use Rattle.table.specs.Records.{counts}
 use Rattle.table.specs.Check.{Right}
@@ -17,11 +19,9 @@ use Rattle.calls.specs.Answers.{numberOf, valueOf}
 use Rattle.script.specs.declared.Ask.the-variants.{Receive, Status, Marks, ClearMarks}
 use Rattle.script.specs.declared.Command.{Command}
 use Rattle.script.specs.declared.Command.the-variants.{Start, Stop, Send, Initialise, Object, Periodic, Indication, Confirm, Tick}
-use Rattle.script.specs.Text.{lineFeed, digitOf, numberField}
-use Rattle.script.proofs.Decimals.{decimal-length}
 use Rattle.report.specs.declared.Shown.{Shown}
 use Rattle.report.specs.declared.Shown.the-variants.{StatusAlone, Value, Requests}
-use Rattle.report.specs.Printing.{Put, lends, shown, shownValue, shownText, valName, requestTexts, answerLine, refusalLine, longestLine}
+use Rattle.report.specs.Printing.{lends, shown, shownValue, shownText, valName, requestTexts, answerLine, refusalLine, longestLine}
 use Rattle.report.proofs.Puts.{put-number-of}
 use Rattle.report.proofs.RequestTexts.{in-table, texts-done, texts-length}
 

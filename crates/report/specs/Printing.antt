@@ -2,13 +2,12 @@
 -- as capital hex digits, by rising I-PDU. Assumes nothing.
 use mathlib.Core.Bool.{Bool, true, false, _||_}
 use mathlib.Core.List.{List, [], _∷_, _++_}
-use mathlib.Core.Path.{_≡_}
 use Prim.Native.Nat.{ℕ, zero, suc, _+_, _*_, _/_, _%_, _^_, _≤_, _<_}
 use lib.Dec.{eqb}
 use lib.ListN.{length}
-use lib.Seq.{sets}
 use Rattle.memory.specs.Bytes.{part}
 use Rattle.memory.specs.Search.{pick}
+use Rattle.memory.specs.Texts.{blank, lineFeed, digitOf, numberField}
 use Rattle.table.specs.Records.{mostIpdus, ipduBase, counts, ipduRecord}
 use Rattle.calls.specs.declared.Answer.{Answer}
 use Rattle.calls.specs.Answers.{numberOf, valueOf}
@@ -19,7 +18,7 @@ use Rattle.script.specs.declared.Command.the-variants.{Start, Stop, Send, Initi
 use Rattle.report.specs.declared.Shown.{Shown}
 use Rattle.report.specs.declared.Shown.the-variants.{StatusAlone, Value, Requests}
 use Rattle.script.specs.Characters.{codes}
-use Rattle.script.specs.Text.{blank, lineFeed, digitOf, numberField, hex}
+use Rattle.script.specs.Text.{hex}
 
 -- ---- a send and a tick are lent a request area
 
@@ -84,12 +83,6 @@ answerLine t command a area = digitOf (numberOf a) ∷ shownText t area (shown c
 -- `9 N`, where line N can't be read
 unfoldable pub refusalLine : ℕ → List ℕ
 refusalLine n = digitOf 9 ∷ numberField n ++ lineFeed ∷ []
-
--- ---- how a function puts a text into `before` from place `at` on, with the place behind it
-
-pub record Put (at : ℕ) (text before after : List ℕ) (end : ℕ) : Type 0 where
-  pub stored : after ≡ sets before at text
-  pub behind : end ≡ at + length text
 
 -- the longest line that is printed
 abbrev pub longestLine : ℕ

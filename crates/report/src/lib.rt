@@ -1,5 +1,4 @@
 // The lines that are printed for the commands of a script (W-201), put into a lent buffer. A line takes at most `LONGEST_LINE` bytes.
-mod numbers;
 mod requests;
 mod values;
 
@@ -11,11 +10,11 @@ ghost use mathlib.Core.List.{[], _∷_};
 ghost use mathlib.Core.Path.{_≡_};
 ghost use Prim.Native.Nat.{_+_, _≤_};
 ghost use lib.ListN.{length};
+ghost use Rattle.memory.specs.Texts.{lineFeed, digitOf, Put};
 ghost use Rattle.table.specs.Check.{Right};
 ghost use Rattle.state.specs.Layout.{areaSize};
 ghost use Rattle.calls.specs.Answers.{numberOf};
-ghost use Rattle.script.specs.Text.{digitOf, lineFeed};
-ghost use Rattle.report.specs.Printing.{Put, lends, answerLine, refusalLine, longestLine};
+ghost use Rattle.report.specs.Printing.{lends, answerLine, refusalLine, longestLine};
 
 // A status, 32 requests of 24 bytes and a line feed.
 pub const LONGEST_LINE: usize = 770;
@@ -43,10 +42,10 @@ pub fn put_answer(
     ensures { λ r. ⌜ Put at (answerLine (now (t .entry)) command answer (now (area .entry))) (now (out .entry)) (now (out .exit)) r ⌝ }
 {
     let number = calls::number_of(answer);
-    let behind = numbers::put_digit(out, at, number);
+    let behind = memory::put_digit(out, at, number);
     let shown = values::shown(command, answer);
     match shown {
-        Shown::StatusAlone => numbers::put_line_feed(out, behind),
+        Shown::StatusAlone => memory::put_line_feed(out, behind),
         Shown::Value(v) => values::put_value(out, behind, v),
         Shown::Requests(word) => requests::put_requests(t, c, area, out, behind, word),
     }
@@ -58,8 +57,8 @@ pub fn put_status(out: &mut [u8], at: usize, answer: Answer) -> usize
     ensures { λ r. ⌜ Put at (digitOf (numberOf answer) ∷ lineFeed ∷ []) (now (out .entry)) (now (out .exit)) r ⌝ }
 {
     let number = calls::number_of(answer);
-    let behind = numbers::put_digit(out, at, number);
-    numbers::put_line_feed(out, behind)
+    let behind = memory::put_digit(out, at, number);
+    memory::put_line_feed(out, behind)
 }
 
 // Puts the line for line n of the script, which can't be read.
@@ -67,7 +66,7 @@ pub fn put_refusal(out: &mut [u8], at: usize, n: u64) -> usize
     requires { ⌜ at + longestLine ≤ length (now out) ⌝ }
     ensures { λ r. ⌜ Put at (refusalLine n) (now (out .entry)) (now (out .exit)) r ⌝ }
 {
-    let behind = numbers::put_digit(out, at, 9);
-    let end = numbers::put_number(out, behind, n);
-    numbers::put_line_feed(out, end)
+    let behind = memory::put_digit(out, at, 9);
+    let end = memory::put_number(out, behind, n);
+    memory::put_line_feed(out, end)
 }

@@ -1,5 +1,4 @@
 // The requests that a call made: for each its I-PDU and the bytes handed over.
-use super::numbers;
 use table::Counts;
 use table::IpduNumber;
 ghost use mathlib.Core.List.{[], _∷_, _++_};
@@ -9,10 +8,11 @@ ghost use lib.Dec.{eqb};
 ghost use lib.ListN.{length};
 ghost use Rattle.memory.specs.Bytes.{part};
 ghost use Rattle.memory.specs.Search.{pick};
+ghost use Rattle.memory.specs.Texts.{lineFeed, Put};
 ghost use Rattle.table.specs.Check.{Right};
 ghost use Rattle.state.specs.Layout.{areaSize};
-ghost use Rattle.script.specs.Text.{hexDigitOf, hex, lineFeed};
-ghost use Rattle.report.specs.Printing.{Put, InTable, requestText, requestTexts};
+ghost use Rattle.script.specs.Text.{hexDigitOf, hex};
+ghost use Rattle.report.specs.Printing.{InTable, requestText, requestTexts};
 
 // The requests that a word names, by rising I-PDU, and the line feed.
 pub(crate) fn put_requests(
@@ -37,7 +37,7 @@ pub(crate) fn put_requests(
         rest /= 2;
         k += 1;
     }
-    numbers::put_line_feed(out, end)
+    memory::put_line_feed(out, end)
 }
 
 // One I-PDU's request, where the lowest bit of `rest` names it.
@@ -67,12 +67,12 @@ fn put_request(t: &[u8], area: &[u8], out: &mut [u8], at: usize, number: IpduNum
     requires { ⌜ at + 24 ≤ length (now out) ⌝ }
     ensures { λ r. ⌜ Put at (requestText (now (t .entry)) (number .0) (now (area .entry))) (now (out .entry)) (now (out .exit)) r ⌝ }
 {
-    out[at] = numbers::BLANK;
+    out[at] = memory::BLANK;
     out[at + 1] = b'r';
     out[at + 2] = b'e';
     out[at + 3] = b'q';
-    let end = numbers::put_number(out, at + 4, number.0 as u64);
-    out[end] = numbers::BLANK;
+    let end = memory::put_number(out, at + 4, number.0 as u64);
+    out[end] = memory::BLANK;
     let record = table::ipdu_record(t, number);
     put_hex(
         out,

@@ -1,6 +1,5 @@
 // What is printed behind the status, and values.
 use super::Shown;
-use super::numbers;
 use calls::Answer;
 use script::Ask;
 use script::Command;
@@ -8,8 +7,8 @@ ghost use mathlib.Core.List.{[], _∷_, _++_};
 ghost use mathlib.Core.Path.{_≡_};
 ghost use Prim.Native.Nat.{_+_, _≤_};
 ghost use lib.ListN.{length};
-ghost use Rattle.script.specs.Text.{numberField, lineFeed};
-ghost use Rattle.report.specs.Printing.{Put, shown, shownAsk, shownValue, valName};
+ghost use Rattle.memory.specs.Texts.{lineFeed, numberField, Put};
+ghost use Rattle.report.specs.Printing.{shown, shownAsk, shownValue, valName};
 
 // What is printed behind the status.
 pub(crate) fn shown(command: Command, answer: Answer) -> Shown
@@ -54,10 +53,10 @@ pub(crate) fn put_value(out: &mut [u8], at: usize, v: u32) -> usize
     requires { ⌜ at + 26 ≤ length (now out) ⌝ }
     ensures { λ r. ⌜ Put at ((valName ++ numberField v) ++ lineFeed ∷ []) (now (out .entry)) (now (out .exit)) r ⌝ }
 {
-    out[at] = numbers::BLANK;
+    out[at] = memory::BLANK;
     out[at + 1] = b'v';
     out[at + 2] = b'a';
     out[at + 3] = b'l';
-    let end = numbers::put_number(out, at + 4, v as u64);
-    numbers::put_line_feed(out, end)
+    let end = memory::put_number(out, at + 4, v as u64);
+    memory::put_line_feed(out, end)
 }

@@ -9,9 +9,10 @@ use native.Mathlib.Omega.{arith}
 use borrow.Author.Tests.{lt-ltb, le-ltb, eqb-true, ne-eqb, not-true}
 use lib.Dec.{eqb}
 use lib.Seq.{append-snoc}
+use Rattle.memory.specs.Texts.{blank, digitOf, decimalDigits, decimal}
 use Rattle.memory.proofs.Tests.{lt-or-le, and-split, true-or-false}
 use Rattle.script.specs.Reading.{Fields, one, two, three, four, tooMany, into, fieldsFrom, fieldsOf}
-use Rattle.script.specs.Text.{blank, digitOf, decimalDigits, decimal, hexDigitOf, hex}
+use Rattle.script.specs.Text.{hexDigitOf, hex}
 
 -- ---- words: no character is a blank
 

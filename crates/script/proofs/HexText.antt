@@ -11,8 +11,9 @@ use borrow.Author.Tests.{lt-ltb, le-ltb, le-leb, lt-leb, ltb-true, leb-true}
 use lib.Dec.{leb}
 use Rattle.memory.proofs.Tests.{lt-or-le, and-split, and-false, each-true, true-or-false}
 use Rattle.memory.specs.Bytes.{Bytes}
+use Rattle.memory.specs.Texts.{blank}
 use Rattle.script.specs.Reading.{isDigit, hexValue, isHexDigit, areHexPairs, isBytes, hexBytes}
-use Rattle.script.specs.Text.{blank, hexDigitOf, hex, hexField}
+use Rattle.script.specs.Text.{hexDigitOf, hex, hexField}
 
 -- ---- one digit
 

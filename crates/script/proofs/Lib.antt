@@ -1,5 +1,4 @@
 pub mod LinesLaws
-pub mod Decimals
 pub mod CharacterLists
 pub mod BytesDown
 pub mod NameNumbers

@@ -11,6 +11,7 @@ use lib.Dec.{eqb}
 use lib.ListN.{length}
 use Rattle.memory.proofs.Tests.{true-or-false}
 use Rattle.memory.specs.Bytes.{Bytes}
+use Rattle.memory.specs.Texts.{blank}
 use Rattle.script.proofs.BytesDown.{down-none, down-bytes}
 use Rattle.script.proofs.HexNumbers.{whole-bytes, frame-short, frame-long}
 use Rattle.script.proofs.CharacterLists.{run-last, bytes-more}
@@ -26,7 +27,7 @@ use Rattle.script.specs.declared.Reading.the-variants.{Readable}
 use Rattle.script.specs.Reader.{withLetter, noName, nameFrom, isNamed, noDigits, hexWith, hexFrom, next, fresh, nextFrom, commandOf, frameAs, frameOf, frameBytes}
 use Rattle.script.specs.Reading.{Fields, one, two, three, four, tooMany, into, fieldsFrom, fieldsOf, numeral, isBytes, alone, ofObject, ofTwo, ofBytes}
 use Rattle.script.specs.Reading.{ifNumber, same, reading, readLine, bytesIn}
-use Rattle.script.specs.Text.{blank, startName, stopName, sendName, initialiseName, receiveName, statusName, marksName, clearMarksName}
+use Rattle.script.specs.Text.{startName, stopName, sendName, initialiseName, receiveName, statusName, marksName, clearMarksName}
 use Rattle.script.specs.Text.{startPeriodicName, stopPeriodicName, indicationName, confirmName, tickName}
 
 -- ---- what is kept of the fields

@@ -11,13 +11,13 @@ use borrow.Author.Tests.{lt-ltb, le-leb, ltb-true, leb-true, eqb-false, ne-eqb, 
 use lib.Dec.{ltb, leb, eqb}
 use lib.Seq.{append-snoc}
 use Rattle.memory.proofs.Tests.{lt-or-le, and-split, true-or-false}
+use Rattle.memory.proofs.Decimals.{decimal-one, decimal-more}
 use Rattle.memory.specs.Search.{pick}
-use Rattle.script.proofs.Decimals.{decimal-one, decimal-more}
+use Rattle.memory.specs.Texts.{digitOf, decimal}
 use Rattle.script.proofs.CharacterLists.{run-last}
 use Rattle.script.specs.declared.Numeral.{Numeral}
 use Rattle.script.specs.declared.Numeral.the-variants.{Nothing, Number, Wrong}
 use Rattle.script.specs.Reading.{isDigit, withDigit, numeralWith, numeralFrom, numeral}
-use Rattle.script.specs.Text.{digitOf, decimal}
 
 pub numeral-last : (f : List ℕ) (b : ℕ) → numeral (f ++ b ∷ []) ≡ numeralWith (numeral f) b
 numeral-last f b = run-last numeralWith numeralFrom (λ a. refl) (λ a c l. refl) Nothing f b

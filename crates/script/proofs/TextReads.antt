@@ -12,6 +12,7 @@ use lib.Dec.{ltb, eqb}
 use Rattle.memory.proofs.Tests.{or-split, true-or-false, true-not-false}
 use Rattle.memory.specs.Bytes.{Bytes}
 use Rattle.memory.specs.Search.{pick}
+use Rattle.memory.specs.Texts.{blank, decimal}
 use Rattle.script.proofs.FieldsText.{isWord, decimal-word, hex-word, fields-one, fields-two, fields-three, fields-four, joinedFields, AllOf, fields-all}
 use Rattle.script.proofs.HexText.{hex-bytes, hex-pairs, pairs-bytes, field-hex}
 use Rattle.script.proofs.CharacterLists.{same-equal}
@@ -25,7 +26,7 @@ use Rattle.script.specs.declared.Command.the-variants.{Start, Stop, Send
 use Rattle.script.specs.declared.Reading.{Reading}
 use Rattle.script.specs.declared.Reading.the-variants.{Readable, Unreadable}
 use Rattle.script.specs.Reading.{Fields, one, two, three, four, tooMany, fieldsOf, numeral, isBytes, hexBytes, alone, ofObject, ofTwo, ofBytes, ifNumber, same, reading, readLine, bytesIn}
-use Rattle.script.specs.Text.{blank, decimal, numberFields, hex, hexField, nameOf, numbersOf, goodNumber, text}
+use Rattle.script.specs.Text.{numberFields, hex, hexField, nameOf, numbersOf, goodNumber, text}
 use Rattle.script.specs.Text.{startName, stopName, sendName, initialiseName, receiveName, statusName, marksName, clearMarksName}
 use Rattle.script.specs.Text.{startPeriodicName, stopPeriodicName, indicationName, confirmName, tickName}
 use Rattle.script.specs.Typed.{AllBelow, carries, TypedCommand}

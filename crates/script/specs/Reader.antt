@@ -5,6 +5,7 @@ use mathlib.Core.List.{List, [], _∷_, _++_}
 use Prim.Native.Nat.{ℕ, zero, suc, _+_, _*_, _/_, _%_, _^_}
 use lib.Dec.{ltb, eqb}
 use Rattle.memory.specs.Search.{pick}
+use Rattle.memory.specs.Texts.{blank}
 use Rattle.script.specs.declared.Frame.{Frame}
 use Rattle.script.specs.declared.Hex.{Hex}
 use Rattle.script.specs.declared.Hex.the-variants.{Digits, NotHex}
@@ -14,7 +15,6 @@ use Rattle.script.specs.declared.Reader.{Reader}
 use Rattle.script.specs.declared.Reader.the-variants.{Naming, First, Second, Bytes, TooMany}
 use Rattle.script.specs.declared.Reading.{Reading}
 use Rattle.script.specs.declared.Reading.the-variants.{Unreadable}
-use Rattle.script.specs.Text.{blank}
 use Rattle.script.specs.Reading.{numeralWith, hexValue, alone, ofObject, ofTwo, ofBytes, ifNumber}
 
 -- ---- the name: up to eight letters in `head`, up to eight more in `tail`; 17 letters stand for too many

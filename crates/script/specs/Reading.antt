@@ -5,13 +5,14 @@ use mathlib.Core.List.{List, [], _∷_, _++_}
 use Prim.Native.Nat.{ℕ, _+_, _*_, _-_, _^_}
 use lib.Dec.{ltb, leb, eqb}
 use Rattle.memory.specs.Search.{pick}
+use Rattle.memory.specs.Texts.{blank}
 use Rattle.script.specs.declared.Ask.the-variants.{Receive, Status, Marks, ClearMarks}
 use Rattle.script.specs.declared.Command.the-variants.{Start, Stop, Send, Initialise, Object, Periodic, Indication, Confirm, Tick}
 use Rattle.script.specs.declared.Numeral.{Numeral}
 use Rattle.script.specs.declared.Numeral.the-variants.{Nothing, Number, Wrong}
 use Rattle.script.specs.declared.Reading.{Reading}
 use Rattle.script.specs.declared.Reading.the-variants.{Readable, Unreadable}
-use Rattle.script.specs.Text.{blank, startName, stopName, sendName, initialiseName, receiveName, statusName, marksName, clearMarksName}
+use Rattle.script.specs.Text.{startName, stopName, sendName, initialiseName, receiveName, statusName, marksName, clearMarksName}
 use Rattle.script.specs.Text.{startPeriodicName, stopPeriodicName, indicationName, confirmName, tickName}
 
 -- ---- fields

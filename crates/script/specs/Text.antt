@@ -2,38 +2,16 @@
 -- Assumes nothing.
 use mathlib.Core.Bool.{Bool, true, false}
 use mathlib.Core.List.{List, [], _∷_, _++_}
-use Prim.Native.Nat.{ℕ, zero, suc, _+_, _/_, _%_}
+use Prim.Native.Nat.{ℕ, _+_, _/_, _%_}
 use lib.Dec.{ltb}
 use Rattle.memory.specs.Search.{pick}
+use Rattle.memory.specs.Texts.{blank, numberField}
 use Rattle.script.specs.Characters.{codes}
 use Rattle.script.specs.declared.Ask.the-variants.{Receive, Status, Marks, ClearMarks}
 use Rattle.script.specs.declared.Command.{Command}
 use Rattle.script.specs.declared.Command.the-variants.{Start, Stop, Send, Initialise, Object, Periodic, Indication, Confirm, Tick}
 
-abbrev pub blank : ℕ
-blank = 32
-
-abbrev pub lineFeed : ℕ
-lineFeed = 10
-
--- ---- decimals with no leading zeros
-
-abbrev pub digitOf : ℕ → ℕ
-digitOf d = 48 + d
-
--- with at most k digits
-abbrev pub decimalDigits : ℕ → ℕ → List ℕ
-decimalDigits zero n = []
-decimalDigits (suc k) n = pick (ltb n 10) (digitOf n ∷ []) (decimalDigits k (n / 10) ++ digitOf (n % 10) ∷ [])
-
--- of a number below 2 ^ 64
-unfoldable pub decimal : ℕ → List ℕ
-decimal n = decimalDigits 20 n
-
 -- one blank before each
-abbrev pub numberField : ℕ → List ℕ
-numberField n = blank ∷ decimal n
-
 abbrev pub numberFields : List ℕ → List ℕ
 numberFields [] = []
 numberFields (n ∷ ns) = numberField n ++ numberFields ns

@@ -1,6 +1,6 @@
 -- The cases of W-201, as one statement over the list, proved by computation from the definitions. Assumes nothing.
 use mathlib.Core.Path.{refl}
-use Rattle.script.specs.Text.{decimal}
+use Rattle.memory.specs.Texts.{decimal}
 use Rattle.report.specs.Printing.{requestText, requestTexts, answerLine, refusalLine}
 use Rattle.cases.proofs.Definitions.{definitions, _&_}
 use Rattle.script_cases.specs.ScriptCases.{AllPrint, scriptCases}

@@ -6,9 +6,9 @@ use mathlib.Core.Path.{_≡_, refl, ap, _∙_}
 use Prim.Native.Nat.{ℕ}
 use lib.Dec.{eqb}
 use Rattle.memory.specs.Search.{pick}
+use Rattle.memory.specs.Texts.{lineFeed}
 use Rattle.script.specs.declared.Reading.{Reading}
 use Rattle.script.specs.declared.Reading.the-variants.{Readable, Unreadable}
-use Rattle.script.specs.Text.{lineFeed}
 use Rattle.script.specs.Reader.{next, commandOf, frameOf, frameBytes}
 use Rattle.report.specs.Printing.{answerLine, refusalLine}
 use Rattle.script.specs.declared.Progress.{Progress}

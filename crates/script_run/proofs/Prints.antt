@@ -11,6 +11,7 @@ use lib.Dec.{ltb, eqb}
 use lib.ListN.{length}
 use Rattle.memory.specs.Bytes.{Bytes}
 use Rattle.memory.specs.Search.{pick}
+use Rattle.memory.specs.Texts.{lineFeed}
 use Rattle.memory.proofs.Tests.{true-or-false, lt-or-le}
 use Rattle.script.specs.declared.Command.{Command}
 use Rattle.script.specs.declared.Reader.{Reader}
@@ -18,7 +19,6 @@ use Rattle.script.specs.declared.Reader.the-variants.{Naming, First, Second, To
 use Rattle.script.specs.declared.Reader.the-variants.{Bytes as Bytes·line}
 use Rattle.script.specs.declared.Reading.{Reading}
 use Rattle.script.specs.declared.Reading.the-variants.{Readable, Unreadable}
-use Rattle.script.specs.Text.{lineFeed}
 use Rattle.script.specs.Reading.{fieldsOf, bytesIn, readLine}
 use Rattle.script.specs.Reader.{next, nextFrom, fresh, frameOf, frameBytes}
 use Rattle.script.proofs.LineReads.{command-reads, frame-reads, frame-too-long, begun-reads}

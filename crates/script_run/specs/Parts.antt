@@ -5,13 +5,13 @@ use mathlib.Core.List.{List, [], _∷_, _++_}
 use Prim.Native.Nat.{ℕ, _+_, _-_, _^_}
 use lib.Dec.{ltb, eqb}
 use Rattle.memory.specs.Search.{pick}
+use Rattle.memory.specs.Texts.{lineFeed}
 use Rattle.calls.specs.Answers.{Outcome}
 use Rattle.script.specs.declared.Command.{Command}
 use Rattle.script.specs.declared.Reader.{Reader}
 use Rattle.script.specs.declared.Reader.the-variants.{Naming, First, Second, Bytes, TooMany}
 use Rattle.script.specs.declared.Reading.{Reading}
 use Rattle.script.specs.declared.Reading.the-variants.{Readable, Unreadable}
-use Rattle.script.specs.Text.{lineFeed}
 use Rattle.script.specs.Reader.{next, fresh, commandOf, frameOf, frameBytes}
 use Rattle.report.specs.Printing.{answerLine, refusalLine}
 use Rattle.script.specs.declared.Progress.{Progress}

@@ -4,6 +4,7 @@ use mathlib.Core.List.{List, [], _∷_, _++_}
 use Prim.Native.Nat.{ℕ, suc}
 use lib.Dec.{eqb}
 use Rattle.memory.specs.Search.{pick}
+use Rattle.memory.specs.Texts.{lineFeed}
 use Rattle.table.specs.declared.Counts.{Counts}
 use Rattle.calls.specs.Answers.{Outcome, outcome}
 use Rattle.layer.specs.Step.{Call, start, stop, send, initialise, receive, status, marks, clearMarks, startPeriodic, stopPeriodic, indication, confirm, tick}
@@ -13,7 +14,6 @@ use Rattle.script.specs.declared.Command.{Command}
 use Rattle.script.specs.declared.Command.the-variants.{Start, Stop, Send, Initialise, Object, Periodic, Indication, Confirm, Tick}
 use Rattle.script.specs.declared.Reading.{Reading}
 use Rattle.script.specs.declared.Reading.the-variants.{Readable, Unreadable}
-use Rattle.script.specs.Text.{lineFeed}
 use Rattle.script.specs.Reading.{fieldsOf, bytesIn, readLine}
 use Rattle.report.specs.Printing.{lends, answerLine, refusalLine}
 

@@ -6,8 +6,8 @@ use native.Mathlib.Omega.{arith}
 use borrow.Author.Needs.{needs}
 use lib.ListN.{length, length-set}
 use Rattle.memory.specs.Bytes.{part}
+use Rattle.memory.specs.Texts.{Put}
 use Rattle.script.specs.Text.{hex}
-use Rattle.report.specs.Printing.{Put}
 use Rattle.report.proofs.HexTexts.{hex-none, hex-more, hex-all}
 use Rattle.report.proofs.requests.put_hex.Statement.{statement}
 use Rattle.report.proofs.requests.put_hex.Tie as tie

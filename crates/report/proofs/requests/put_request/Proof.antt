@@ -5,7 +5,7 @@ use Prim.Native.Nat.{_+_, _≤_}
 use native.Mathlib.Omega.{arith}
 use borrow.Author.Needs.{needs}
 use lib.ListN.{length, length-set}
-use Rattle.report.proofs.Puts.{put-length}
+use Rattle.memory.proofs.Puts.{put-length}
 use Rattle.report.proofs.RequestTexts.{number-room, number-behind, record-few, request-put}
 use Rattle.report.proofs.requests.put_request.Statement.{statement}
 use Rattle.report.proofs.requests.put_request.Tie as tie

@@ -4,7 +4,8 @@ use mathlib.Core.Path.{_≡_}
 use Prim.Native.Nat.{_/_, _-_, _^_, _≤_}
 use borrow.Author.Needs.{needs}
 use lib.ListN.{length}
-use Rattle.report.specs.Printing.{Put, requestTexts}
+use Rattle.memory.specs.Texts.{Put}
+use Rattle.report.specs.Printing.{requestTexts}
 use Rattle.report.proofs.RequestTexts.{texts-none, turn-fits, turn-less, turn-next, turn-there, turn-room, turn-more, rest-more, end-room, turns-done}
 use Rattle.report.proofs.requests.put_requests.Statement.{statement}
 use Rattle.report.proofs.requests.put_requests.Tie as tie

@@ -3,8 +3,9 @@
 use native.Mathlib.Omega.{arith}
 use borrow.Author.Needs.{needs}
 use lib.ListN.{length-set}
-use Rattle.script.proofs.Decimals.{decimal-length}
-use Rattle.report.proofs.Puts.{put-length, value-put, value-room}
+use Rattle.memory.proofs.Decimals.{decimal-length}
+use Rattle.memory.proofs.Puts.{put-length}
+use Rattle.report.proofs.Puts.{value-put, value-room}
 use Rattle.report.proofs.values.put_value.Statement.{statement}
 use Rattle.report.proofs.values.put_value.Tie as tie
 

@@ -1,9 +1,9 @@
--- `report::numbers::put_number`: the blank, then the digits.
+-- `memory::texts::put_number`: the blank, then the digits.
 -- Assumes nothing.
 use borrow.Author.Needs.{needs}
-use Rattle.report.proofs.Puts.{put-byte, put-length}
-use Rattle.report.proofs.numbers.put_number.Statement.{statement}
-use Rattle.report.proofs.numbers.put_number.Tie as tie
+use Rattle.memory.proofs.Puts.{put-byte, put-length}
+use Rattle.memory.proofs.texts.put_number.Statement.{statement}
+use Rattle.memory.proofs.texts.put_number.Tie as tie
 
 returns : tie.Need-returns
 returns c = search (needs, put-byte)

@@ -1,16 +1,16 @@
--- `report::numbers::put_decimal`: a number of one digit is that digit; any other is its tenth's digits, then the last. The measure is the number.
+-- `memory::texts::put_decimal`: a number of one digit is that digit; any other is its tenth's digits, then the last. The measure is the number.
 -- Assumes nothing.
 use Prim.Native.Nat.{ℕ, _<_}
 use borrow.Author.Needs.{needs}
 use borrow.Fn.Kinds.{In}
 use borrow.Fn.PlainCycle.{Measures, is, falls, and}
-use Rattle.report.proofs.Puts.{put-decimal-one, put-decimal-more, room-for-one, room-for-tenth, room-for-last}
-use Rattle.report.proofs.numbers.put_decimal.Reads as put-decimal
-use Rattle.report.proofs.numbers.put_decimal.Kinds as put-decimal-kinds
-use Rattle.report.proofs.numbers.+put_decimal.Lts-put_decimal as put-decimal-lts
-use Rattle.report.proofs.numbers.put_digit.Reads as put-digit-reads
-use Rattle.report.proofs.numbers.+put_decimal.{statement}
-use Rattle.report.proofs.numbers.+put_decimal.Tie.{close}
+use Rattle.memory.proofs.Puts.{put-decimal-one, put-decimal-more, room-for-one, room-for-tenth, room-for-last}
+use Rattle.memory.proofs.texts.put_decimal.Reads as put-decimal
+use Rattle.memory.proofs.texts.put_decimal.Kinds as put-decimal-kinds
+use Rattle.memory.proofs.texts.+put_decimal.Lts-put_decimal as put-decimal-lts
+use Rattle.memory.proofs.texts.put_digit.Reads as put-digit-reads
+use Rattle.memory.proofs.texts.+put_decimal.{statement}
+use Rattle.memory.proofs.texts.+put_decimal.Tie.{close}
 
 abbrev μ-put-decimal : Measures 1 put-decimal-kinds.ps ℕ
 μ-put-decimal κs a = a .1 .1 .0

@@ -8,8 +8,8 @@ use native.Mathlib.Nat.{pow-succ'}
 use native.Mathlib.Omega.{arith}
 use borrow.Author.Tests.{lt-ltb, le-ltb}
 use lib.ListN.{length, length-append}
+use Rattle.memory.specs.Texts.{digitOf, decimalDigits, decimal}
 use Rattle.memory.proofs.Tests.{lt-or-le}
-use Rattle.script.specs.Text.{digitOf, decimalDigits, decimal}
 
 digits-one : (k n : ℕ) → n < 10 → decimalDigits (suc k) n ≡ digitOf n ∷ []
 digits-one k n low = rw (lt-ltb n 10 low)

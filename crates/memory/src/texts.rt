@@ -3,15 +3,14 @@ ghost use mathlib.Core.List.{[], _∷_};
 ghost use mathlib.Core.Path.{_≡_};
 ghost use Prim.Native.Nat.{_+_, _≤_, _<_};
 ghost use lib.ListN.{length};
-ghost use Rattle.script.specs.Text.{digitOf, decimal, numberField, lineFeed};
-ghost use Rattle.report.specs.Printing.{Put};
+ghost use Rattle.memory.specs.Texts.{lineFeed, digitOf, decimal, numberField, Put};
 
-pub(crate) const BLANK: u8 = 32;
+pub const BLANK: u8 = 32;
 
 const LINE_FEED: u8 = 10;
 
 // A blank and a number.
-pub(crate) fn put_number(out: &mut [u8], at: usize, n: u64) -> usize
+pub fn put_number(out: &mut [u8], at: usize, n: u64) -> usize
     requires { ⌜ at + 1 + length (decimal n) ≤ length (now out) ⌝ }
     ensures { λ r. ⌜ Put at (numberField n) (now (out .entry)) (now (out .exit)) r ⌝ }
 {
@@ -20,7 +19,7 @@ pub(crate) fn put_number(out: &mut [u8], at: usize, n: u64) -> usize
 }
 
 // A number in decimals with no leading zeros.
-fn put_decimal(out: &mut [u8], at: usize, n: u64) -> usize
+pub fn put_decimal(out: &mut [u8], at: usize, n: u64) -> usize
     requires { ⌜ at + length (decimal n) ≤ length (now out) ⌝ }
     ensures { λ r. ⌜ Put at (decimal n) (now (out .entry)) (now (out .exit)) r ⌝ }
 {
@@ -31,7 +30,7 @@ fn put_decimal(out: &mut [u8], at: usize, n: u64) -> usize
     put_digit(out, last, (n % 10) as u32)
 }
 
-pub(crate) fn put_digit(out: &mut [u8], at: usize, d: u32) -> usize
+pub fn put_digit(out: &mut [u8], at: usize, d: u32) -> usize
     requires { ⌜ d < 10 ⌝ }
     requires { ⌜ at < length (now out) ⌝ }
     ensures { λ r. ⌜ Put at (digitOf d ∷ []) (now (out .entry)) (now (out .exit)) r ⌝ }
@@ -40,7 +39,7 @@ pub(crate) fn put_digit(out: &mut [u8], at: usize, d: u32) -> usize
     at + 1
 }
 
-pub(crate) fn put_line_feed(out: &mut [u8], at: usize) -> usize
+pub fn put_line_feed(out: &mut [u8], at: usize) -> usize
     requires { ⌜ at < length (now out) ⌝ }
     ensures { λ r. ⌜ Put at (lineFeed ∷ []) (now (out .entry)) (now (out .exit)) r ⌝ }
 {
