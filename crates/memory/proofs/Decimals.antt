@@ -52,10 +52,18 @@ pub decimal-length : (n : ℕ) → length (decimal n) ≤ 20
 unfolding decimal
 decimal-length n = digits-length 20 n
 
-pub decimal-short : (n : ℕ) → n < 100 → length (decimal n) ≤ 2
-decimal-short n h =
+-- a number below 10 ^ (k + 1) has at most k + 1
+digits-within : (j k n : ℕ) → n < 10 ^ suc k → length (decimalDigits j n) ≤ suc k
+digits-within zero k n h = zero-le
+digits-within (suc j) zero n h = let low : n < 10 = h in rw (digits-one j n low) (omega arith)
+digits-within (suc j) (suc k) n h =
     ⊎-elim
-    (λ (low : n < 10). rw (decimal-one n low) (omega arith))
+    (λ (low : n < 10). rw (digits-one j n low) (omega arith))
     (λ (high : 10 ≤ n).
-    rw (decimal-more n high (omega arith), decimal-one (n / 10) (omega arith)) (omega arith))
+    let tenth : n / 10 < 10 ^ suc k = omega (arith, pow-succ' 10 (suc k)) in
+    rw (digits-more j n high, length-append) (omega (arith, digits-within j k (n / 10) tenth)))
     (lt-or-le n 10)
+
+pub decimal-within : (k n : ℕ) → n < 10 ^ suc k → length (decimal n) ≤ suc k
+unfolding decimal
+decimal-within k n h = digits-within 20 k n h

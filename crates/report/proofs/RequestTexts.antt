@@ -17,7 +17,7 @@ use Rattle.memory.specs.Search.{pick}
 use Rattle.memory.specs.Texts.{lineFeed, decimal, numberField, Put}
 use Rattle.memory.proofs.Tests.{and-split, eq-or-ne, lt-or-le}
 use Rattle.memory.proofs.Search.{picked}
-use Rattle.memory.proofs.Decimals.{decimal-short}
+use Rattle.memory.proofs.Decimals.{decimal-within}
 use Rattle.memory.proofs.Puts.{put-append, put-none, put-byte, put-length}
 use Rattle.table.specs.declared.Counts.{Counts}
 use Rattle.table.specs.declared.IpduRecord.{IpduRecord}
@@ -48,19 +48,19 @@ request-length t k area there =
       arith,
       there .number,
       there .few,
-      decimal-short k (omega (arith, there .number)),
+      decimal-within 1 k (omega (arith, there .number)),
       hex-part-length (8 * k) (ipduRecord t k .length) area,
     ))
 
 -- ` req`, whose codes are 32, 114, 101 and 113, and the number; then a blank and the bytes
 module _ (t : List ℕ) (k at : ℕ) (m : List ℕ) (there : InTable t k) (room : at + 24 ≤ length m) where
   pub number-room : at + 4 + 1 + length (decimal k) ≤ length (withFour at 32 114 101 113 m)
-  number-room = omega (arith, decimal-short k (omega (arith, there .number)), four-length at 32 114 101 113 m, room)
+  number-room = omega (arith, decimal-within 1 k (omega (arith, there .number)), four-length at 32 114 101 113 m, room)
 
   pub number-behind : {e : ℕ} {n : List ℕ} → Put (at + 4) (numberField k) (withFour at 32 114 101 113 m) n e
       → (e + 17 ≤ length m) × (length n ≡ length m)
   number-behind put =
-      (omega (arith, put .behind, decimal-short k (omega (arith, there .number)), room), put-length put ∙ four-length at 32 114 101 113 m)
+      (omega (arith, put .behind, decimal-within 1 k (omega (arith, there .number)), room), put-length put ∙ four-length at 32 114 101 113 m)
 
 pub record-few : (t : List ℕ) (k : ℕ) {r : IpduRecord} → InTable t k → r ≡ ipduRecord t k → r .length ≤ 8
 record-few t k there same = rw same (there .few)
