@@ -9,9 +9,12 @@
  *   bytes    the bytes of an indication; only read
  *   pairs    what a group sends, as bytes or as structs; only read
  *   statuses a byte for each pair of a group
- * An array of birnenschloss_pair has the alignment of its type; nothing else needs one. Nothing is
- * kept between calls but in the lent memory, and no pointer is kept at all: table and memory may
- * move, if their bytes move with them.
+ *   sheet    of a journey, at least 520 bytes; the first 520 are used (docs/SHEET.md)
+ *   objects  the numbers of the objects that a sheet follows; only read
+ *   text     gets the lines of a sheet, at least 1536 bytes
+ * Arrays of birnenschloss_pair and of objects have the alignment of their types; nothing else needs
+ * one. Nothing is kept between calls but in the lent memory and sheet, and no pointer is kept at
+ * all: table, memory and sheet may move, if their bytes move with them.
  *
  * Threads. There is no global state: calls over different memories may run at once. Two calls over
  * one memory must not, nor over one area: let a lock or an interrupt mask see to it.
@@ -20,7 +23,7 @@
  * bytes stay as they were, and the value is 0 (birnenschloss_check gives a place with its 5). One
  * exception: a receive that answers E_COM_LIMIT is not refused. It gives the oldest value of the
  * queue, removes it there and clears the overflow. Of several reasons to refuse, the first in the
- * order 5, 6, 7, 1, 2, 8, 4, 3 is answered; a group has 1 as a status alone.
+ * order 5, 6, 7, 1, 2, 8, 4, 3, 10 is answered; a group has 1 as a status alone.
  *
  * At the boundary. Any numbers and any contents of the lent bytes are answered, and so are bytes
  * that are too few: a table of 0 or 1 bytes by 5, a memory or an area of 0 or 1 bytes by 6. Left to
@@ -28,7 +31,8 @@
  *   - no pointer is null, also where the length is 0: for no bytes, any other pointer will do
  *   - so many bytes, or structs, as the length says are there, and have been written (static
  *     storage has)
- *   - memory, area and statuses share no byte with each other, nor with what is only read
+ *   - memory, area, statuses, sheet and text share no byte with each other, nor with what is only
+ *     read
  */
 #ifndef BIRNENSCHLOSS_H
 #define BIRNENSCHLOSS_H
@@ -56,6 +60,7 @@
 #define BIRNENSCHLOSS_E_MEMORY 6        /* memory or area short, or a stored number out of range */
 #define BIRNENSCHLOSS_E_STOPPED 7       /* the layer is stopped */
 #define BIRNENSCHLOSS_E_NOT_REQUESTED 8 /* a confirm, and no request is open */
+#define BIRNENSCHLOSS_E_FOLLOWED 10     /* a sheet for more than 16 objects, or for one twice */
 
 /* Does not compile where another header gives OSEK's names other numbers than the library. */
 typedef char birnenschloss_numbers_agree[(E_OK) == 0 && (E_COM_ID) == 1 && (E_COM_LENGTH) == 2 &&
@@ -71,6 +76,11 @@ typedef char birnenschloss_numbers_agree[(E_OK) == 0 && (E_COM_ID) == 1 && (E_CO
 /* The most pairs of a group, and the bytes of a pair in the form of bytes. */
 #define BIRNENSCHLOSS_MOST_PAIRS 16
 #define BIRNENSCHLOSS_PAIR_SIZE 5
+
+/* Bytes of a sheet and of a text for its lines, and the most objects that a sheet follows. */
+#define BIRNENSCHLOSS_SHEET_SIZE 520
+#define BIRNENSCHLOSS_SHEET_TEXT_SIZE 1536
+#define BIRNENSCHLOSS_MOST_FOLLOWED 16
 
 /* The marks of a message object, added. */
 #define BIRNENSCHLOSS_MARK_ARRIVED 1
@@ -111,9 +121,11 @@ static inline const char *birnenschloss_number_text(uint32_t number)
         "the queue has lost a value since the last receive",
         "the queue is empty",
         "the table is wrong",
-        "memory or request area refused: ask if they have 8192 and 256 bytes, and if the layer was started over this table",
+        "memory, request area, sheet or text refused: ask if they have 8192, 256, 520 and 1536 bytes, if the layer was started over this table, and if the sheet was begun",
         "the layer is stopped, or was never started",
         "no request of this I-PDU is open",
+        "none of the layer's numbers",
+        "a sheet for more than 16 objects, or for one twice",
     };
     return number < sizeof texts / sizeof texts[0] ? texts[number] : "none of the layer's numbers";
 }
@@ -232,6 +244,24 @@ birnenschloss_answer birnenschloss_confirm(const uint8_t *table, size_t table_le
 birnenschloss_answer birnenschloss_tick(const uint8_t *table, size_t table_length,
                                         uint8_t *memory, size_t memory_length,
                                         uint8_t *area, size_t area_length);
+
+/* Begins a sheet that follows these objects, objects_count of them, each a queued receive object;
+ * nothing is drained yet. Writes all 520 bytes of the sheet; memory is only looked at. Answers 0; 1
+ * (an object that is not a queued one), 5, 6 (the sheet too), 7, 10 (more than 16, or one twice). */
+birnenschloss_answer birnenschloss_sheet_begin(const uint8_t *table, size_t table_length,
+                                               const uint8_t *memory, size_t memory_length,
+                                               uint8_t *sheet, size_t sheet_length,
+                                               const uint32_t *objects, size_t objects_count);
+
+/* Drains the objects of a sheet in the order given: receives each until a receive answers 4, then
+ * reads its marks and clears them where they hold receive error. Then writes a line for each at the
+ * front of the text: number, drained, first, last, least, greatest, overflows, errors; the four
+ * values are - where nothing was drained. The text ends with no 0. Answers 0 with how many bytes
+ * were written; 1, 5, 6 (the sheet or the text too), 7, 10, and then nothing is drained. */
+birnenschloss_answer birnenschloss_sheet_drain(const uint8_t *table, size_t table_length,
+                                               uint8_t *memory, size_t memory_length,
+                                               uint8_t *sheet, size_t sheet_length,
+                                               uint8_t *text, size_t text_length);
 
 #ifdef __cplusplus
 }

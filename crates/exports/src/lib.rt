@@ -2,6 +2,7 @@
 // function forwards to a proved call and has its contract; none asks anything of its caller.
 mod forwarded;
 mod groups;
+mod sheets;
 
 pub use forwarded::birnenschloss_clear_marks;
 pub use forwarded::birnenschloss_confirm;
@@ -18,6 +19,8 @@ pub use forwarded::birnenschloss_stop_periodic;
 pub use forwarded::birnenschloss_tick;
 pub use groups::birnenschloss_send_group;
 pub use groups::birnenschloss_send_records;
+pub use sheets::birnenschloss_sheet_begin;
+pub use sheets::birnenschloss_sheet_drain;
 ghost use mathlib.Core.Path.{_≡_};
 ghost use Rattle.table.specs.Check.{check};
 ghost use Rattle.config.specs.Decode.{ipduLength};
