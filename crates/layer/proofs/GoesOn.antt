@@ -9,7 +9,7 @@ use native.Mathlib.Omega.{arith}
 use lib.Dec.{leb, eqb}
 use lib.ListN.{length, drop}
 use Rattle.memory.specs.Bytes.{Bytes}
-use Rattle.memory.proofs.Tests.{true-or-false}
+use Rattle.memory.proofs.Tests.{true-or-false, and-false}
 use Rattle.table.specs.declared.Counts.{Counts}
 use Rattle.table.specs.declared.Verdict.{Verdict}
 use Rattle.table.specs.declared.Verdict.the-variants.{Accepted, WrongHeader, WrongIpdu, WrongObject}
@@ -67,6 +67,17 @@ found t m e = cases (check t) refl e
     cases WrongHeader h e = absurd (five e)
     cases (WrongIpdu k) h e = absurd (five e)
     cases (WrongObject i) h e = absurd (five e)
+
+-- what is too short or out of range is refused, with 5 or 6
+pub refused-unfit : (t m : List ℕ) → refusal t m false ≡ 0 → ⊥
+unfolding refusal admission
+refused-unfit t m e = cases (check t) e
+  where
+    cases : (v : Verdict) → refusalOf (admissionOf v t m false) ≡ 0 → ⊥
+    cases (Accepted c) e = let six : _≡_ {A = ℕ} 6 0 = rw (and-false (leb memorySize (length m))) at e in omega (arith, six)
+    cases WrongHeader e = omega (arith, e)
+    cases (WrongIpdu k) e = omega (arith, e)
+    cases (WrongObject i) e = omega (arith, e)
 
 module _ {t m : List ℕ} (goes : Goes t m) where
   pub found-here : Found t m
