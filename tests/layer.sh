@@ -1,5 +1,5 @@
 #!/usr/bin/env bash
-# The proved layer against the independent one of tests/layer, on some 60,000 random calls. Needs target/staticlib/libexports.a
+# The proved layer against the independent one of tests/layer, on some 100,000 random calls. Needs target/staticlib/libexports.a
 # and rustc. `tests/layer.sh SEED COUNT` takes another seed and more calls.
 set -euo pipefail
 cd "$(dirname "${BASH_SOURCE[0]}")/.."

@@ -1,19 +1,47 @@
-//! What the test plays: a call of document 01 or a group, on either side.
+//! What the test plays: a call of document 01, a group, a begin or a drain of a sheet, on either
+//! side.
 
 use crate::call::Call;
 use crate::group::{Form, Group};
 use crate::library::Library;
 use crate::reference::Layer;
+use crate::sheet::{OnSheet, What};
 use crate::table::Answer;
 
 #[derive(Clone, Debug)]
 pub enum Act {
     Call(Call),
     Group(Group),
+    Sheet(OnSheet),
 }
 
-/// The calls of document 01 in its order, a group as bytes, a group as records.
-pub const KINDS: usize = 15;
+/// The calls of document 01 in its order, a group as bytes, a group as records, a begin, a drain.
+pub const KINDS: usize = 17;
+
+/// What is lent besides table, memory and area, with the bytes behind it: the status list of a
+/// group, all sheets, the text of a drain.
+#[derive(Clone, Debug, PartialEq)]
+pub struct Lists {
+    pub statuses: Vec<u8>,
+    pub sheets: Vec<Vec<u8>>,
+    pub text: Vec<u8>,
+}
+
+impl Lists {
+    /// Where another one differs from this: the name of the bytes, which of them, and both.
+    pub fn difference(&self, other: &Lists) -> Option<(String, usize, u8, u8)> {
+        let sheets = self.sheets.iter().zip(&other.sheets).enumerate();
+        let sheets = sheets.map(|(n, (ours, theirs))| (format!("sheet {n}"), ours, theirs));
+        let statuses = (String::from("status list"), &self.statuses, &other.statuses);
+        let text = (String::from("text"), &self.text, &other.text);
+        for (name, ours, theirs) in sheets.chain([statuses, text]) {
+            if let Some(at) = (0..ours.len()).find(|&i| ours[i] != theirs[i]) {
+                return Some((name, at, ours[at], theirs[at]));
+            }
+        }
+        None
+    }
+}
 
 impl Act {
     pub fn kind(&self) -> usize {
@@ -21,6 +49,8 @@ impl Act {
             Act::Call(call) => call.kind(),
             Act::Group(Group { form: Form::Bytes(_), .. }) => 13,
             Act::Group(Group { form: Form::Records(_), .. }) => 14,
+            Act::Sheet(OnSheet { what: What::Begin(_), .. }) => 15,
+            Act::Sheet(OnSheet { what: What::Drain(..), .. }) => 16,
         }
     }
 
@@ -32,16 +62,18 @@ impl Act {
     pub fn refused_by(&self, number: u32) -> bool {
         match self {
             Act::Call(call) => call.refused_by(number),
-            Act::Group(_) => number != 0,
+            Act::Group(_) | Act::Sheet(_) => number != 0,
         }
     }
 
-    /// The status list of a group as it is before, with the bytes behind it.
-    pub fn statuses(&self) -> Vec<u8> {
-        match self {
-            Act::Call(_) => Vec::new(),
-            Act::Group(group) => group.statuses.clone(),
-        }
+    /// What is lent, as it is before.
+    pub fn lists(&self, sheets: &[Vec<u8>]) -> Lists {
+        let (statuses, text) = match self {
+            Act::Call(_) => (Vec::new(), Vec::new()),
+            Act::Group(group) => (group.statuses.clone(), Vec::new()),
+            Act::Sheet(on) => (Vec::new(), on.text()),
+        };
+        Lists { statuses, sheets: sheets.to_vec(), text }
     }
 
     pub fn by_reference(
@@ -50,12 +82,16 @@ impl Act {
         memory: usize,
         in_range: bool,
         area: &mut [u8],
-        statuses: &mut [u8],
+        lists: &mut Lists,
     ) -> Answer {
         match self {
             Act::Call(call) => layer.call(call, memory, in_range, area),
             Act::Group(group) => {
-                layer.group(group, memory, in_range, area, &mut statuses[..group.lent])
+                layer.group(group, memory, in_range, area, &mut lists.statuses[..group.lent])
+            }
+            Act::Sheet(on) => {
+                let (sheet, text) = (on.of(&mut lists.sheets), &mut lists.text[..on.text_lent()]);
+                layer.on_sheet(on, memory, in_range, sheet, text)
             }
         }
     }
@@ -66,12 +102,16 @@ impl Act {
         table: &[u8],
         memory: &mut [u8],
         area: &mut [u8],
-        statuses: &mut [u8],
+        lists: &mut Lists,
     ) -> Answer {
         match self {
             Act::Call(call) => library.call(table, memory, call, area),
             Act::Group(group) => {
-                library.group(table, memory, group, area, &mut statuses[..group.lent])
+                library.group(table, memory, group, area, &mut lists.statuses[..group.lent])
+            }
+            Act::Sheet(on) => {
+                let (sheet, text) = (on.of(&mut lists.sheets), &mut lists.text[..on.text_lent()]);
+                library.on_sheet(table, memory, on, sheet, text)
             }
         }
     }

@@ -1,7 +1,7 @@
 //! The cases 1 to 11 of document 01 and the example of request W-203, on the library and the
 //! reference.
 
-use crate::act::Act;
+use crate::act::{Act, Lists};
 use crate::call::Call;
 use crate::library::Library;
 use crate::reference::Layer;
@@ -15,13 +15,15 @@ pub struct Case {
     library: Library,
     memory: [u8; 8192],
     pub area: [u8; 256],
+    pub sheets: Vec<Vec<u8>>,
 }
 
 impl Case {
     fn new(ipdus: &[[u8; 16]], objects: &[[u8; 32]]) -> Case {
         let table = join(ipdus, objects);
         let (reference, library) = (Layer::new(&table), Library::new(&table));
-        Case { table, reference, library, memory: [0xA5; 8192], area: [0xA5; 256] }
+        let (memory, area, sheets) = ([0xA5; 8192], [0xA5; 256], vec![vec![0; 528]; 2]);
+        Case { table, reference, library, memory, area, sheets }
     }
 
     pub fn started_with(ipdus: &[[u8; 16]], objects: &[[u8; 32]]) -> Case {
@@ -39,15 +41,19 @@ impl Case {
         self.play(&Act::Call(call)).0
     }
 
-    /// The answer of both layers, and the status list of a group with the bytes behind it. They
-    /// agree in these, in the area and in what is stored.
-    pub fn play(&mut self, act: &Act) -> ((u32, u32), Vec<u8>) {
+    /// The answer of both layers, and the status list, sheets and text with the bytes behind them.
+    /// They agree in these, in the area and in what is stored.
+    pub fn play(&mut self, act: &Act) -> ((u32, u32), Lists) {
         let (before, mut area) = (self.memory, self.area);
-        let (mut s, mut t) = (act.statuses(), act.statuses());
+        let (mut s, mut t) = (act.lists(&self.sheets), act.lists(&self.sheets));
         let ours = act.by_reference(&mut self.reference, 8192, true, &mut area, &mut s);
         let lent = (&mut self.memory, &mut self.area);
         let theirs = act.by_library(&mut self.library, &self.table, lent.0, lent.1, &mut t);
-        assert_eq!((theirs, self.area, t), (ours, area, s.clone()), "{act:?}");
+        assert_eq!((theirs, self.area, &t), (ours, area, &s), "{act:?}");
+        if act.refused_by(ours.number) {
+            assert_eq!(s, act.lists(&self.sheets), "{act:?}");
+        }
+        self.sheets = t.sheets;
         if act.refused_by(ours.number) {
             assert_eq!(self.memory, before, "{act:?}");
         } else {

@@ -28,7 +28,8 @@ impl Case {
     /// The answer to a group that is lent so many statuses, and these; the 8 bytes behind stay.
     fn lent(&mut self, form: Form, lent: usize) -> ((u32, u32), Vec<u8>) {
         let group = Group { form, statuses: vec![NOISE; lent + 8], lent };
-        let (answer, mut statuses) = self.play(&Act::Group(group));
+        let (answer, lists) = self.play(&Act::Group(group));
+        let mut statuses = lists.statuses;
         assert_eq!(statuses.split_off(lent), [NOISE; 8]);
         (answer, statuses)
     }

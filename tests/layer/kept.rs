@@ -67,6 +67,7 @@ impl Latest {
                 }
                 self.group_from = u64::MAX;
             }
+            Act::Sheet(_) => {}
         }
         for (k, p) in after.ipdus.iter().enumerate().filter(|(_, p)| p.sends) {
             let here = |(o, kept): (&Object, &Option<Kept>)| {

@@ -3,6 +3,7 @@
 
 use crate::call::Call;
 use crate::group::Group;
+use crate::sheet::OnSheet;
 use crate::table::Answer;
 
 #[cfg(not(own))]
@@ -12,7 +13,7 @@ mod linked {
     use crate::group::Pair;
     // A table, the bytes of an indication or of a group: where they start, and how many they are.
     type In = *const u8;
-    // Working memory, a request area or a status list.
+    // Working memory, a request area, a status list, a sheet or a text.
     type Out = *mut u8;
     type N = usize;
 
@@ -45,6 +46,12 @@ mod linked {
             t: In, tn: N, m: Out, mn: N, ipdu: u32, good: u32,
         ) -> Answer;
         pub fn birnenschloss_tick(t: In, tn: N, m: Out, mn: N, area: Out, an: N) -> Answer;
+        pub fn birnenschloss_sheet_begin(
+            t: In, tn: N, m: In, mn: N, sheet: Out, sn: N, objects: *const u32, on: N,
+        ) -> Answer;
+        pub fn birnenschloss_sheet_drain(
+            t: In, tn: N, m: Out, mn: N, sheet: Out, sn: N, text: Out, xn: N,
+        ) -> Answer;
     }
 }
 
@@ -120,6 +127,33 @@ impl Library {
             }
         }
     }
+
+    pub fn on_sheet(
+        &mut self,
+        table: &[u8],
+        m: &mut [u8],
+        on: &OnSheet,
+        sheet: &mut [u8],
+        text: &mut [u8],
+    ) -> Answer {
+        use crate::sheet::What;
+        use linked::*;
+        let (t, tn, mn) = (table.as_ptr(), table.len(), m.len());
+        let (s, sn, xn) = (sheet.as_mut_ptr(), sheet.len(), text.len());
+        // As above.
+        unsafe {
+            match &on.what {
+                What::Begin(objects) => {
+                    let (o, on) = (objects.as_ptr(), objects.len());
+                    birnenschloss_sheet_begin(t, tn, m.as_ptr(), mn, s, sn, o, on)
+                }
+                What::Drain(..) => {
+                    let x = text.as_mut_ptr();
+                    birnenschloss_sheet_drain(t, tn, m.as_mut_ptr(), mn, s, sn, x, xn)
+                }
+            }
+        }
+    }
 }
 
 /// The stand-in: reads its state from a memory in its ranges, and writes it there after every
@@ -159,6 +193,22 @@ impl Library {
     ) -> Answer {
         let in_range = self.read(table, m);
         let answer = self.layer.group(group, m.len(), in_range, area, statuses);
+        if answer.number == 0 {
+            crate::stored::write(&self.layer, m);
+        }
+        answer
+    }
+
+    pub fn on_sheet(
+        &mut self,
+        table: &[u8],
+        m: &mut [u8],
+        on: &OnSheet,
+        sheet: &mut [u8],
+        text: &mut [u8],
+    ) -> Answer {
+        let in_range = self.read(table, m);
+        let answer = self.layer.on_sheet(on, m.len(), in_range, sheet, text);
         if answer.number == 0 {
             crate::stored::write(&self.layer, m);
         }

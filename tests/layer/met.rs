@@ -2,168 +2,45 @@
 
 use crate::act::{Act, KINDS};
 use crate::call::Call;
+use crate::events::EVENTS;
+use crate::met_sheet::Refused;
 use crate::records::{Ipdu, Object};
 use crate::reference::Layer;
 use crate::table::Answer;
 
-#[derive(Clone, Copy, Debug)]
-pub enum Event {
-    RequestBySend,
-    PostponedBySend,
-    RequestByTick,
-    PostponedMadeByTick,
-    DelayRunOut,
-    DeadlineRunOut,
-    /// The period fires while a request is open, in mode 1 and in mode 2.
-    FiredOpenPeriodic,
-    FiredOpenMixed,
-    /// The period fires while a request waits.
-    FiredWanted,
-    ReceiveTimerRunOut,
-    StopPeriodicWanted,
-    StartRunning,
-    StartOpen,
-    ShortAreaSend,
-    ShortAreaTick,
-    /// A full queue lost a value.
-    ValueLost,
-    /// What only a changed memory holds, met by a call: an open request with a deadline of 0 and
-    /// a running countdown of 0, by a tick; the overflow of an empty queue, by a receive or a
-    /// status; bytes behind the length of an I-PDU that is requested.
-    DeadlineOfZero,
-    CountdownOfZero,
-    OverflowOfEmptyQueue,
-    BytesBehindLength,
-    /// Memory of zeros: a start, and the other calls where zeros are in all ranges and not.
-    StartOverZeros,
-    ZerosStopped,
-    ZerosOutOfRange,
-    /// Groups of no pairs and of 16, done.
-    GroupEmpty,
-    GroupSixteen,
-    /// Groups refused with 2 for one reason alone.
-    GroupTooMany,
-    GroupCutPair,
-    GroupStatusesShort,
-    GroupStatusesLong,
-    /// Groups refused for another reason.
-    GroupWrongTable,
-    GroupShortArea,
-    GroupOverStopped,
-    /// And with a reason for 2 besides.
-    GroupFiveNotTwo,
-    GroupSixNotTwo,
-    GroupRangeNotTwo,
-    GroupSevenNotTwo,
-    /// A pair with status 1 before one with 0.
-    GroupWrongPairGoesOn,
-    /// Status 1 for a receive object; in bytes for a number from 128 on; in records for one whose
-    /// low byte is a send object's number.
-    GroupReceiveObject,
-    GroupByteFrom128,
-    GroupRecordAbove255,
-    /// An object that is named again; one that before the group would have judged otherwise.
-    GroupSameObjectTwice,
-    GroupJudgedAnew,
-    /// A send object with filter 14 that passes one value of the group and drops another.
-    GroupFourteen,
-    /// A count that returns to 0, and a further value of its object.
-    GroupCountReturns,
-    /// An I-PDU that a pair has requested: a later pending value is not in its slot, a later
-    /// triggered one is postponed.
-    GroupPendingAfterTriggered,
-    GroupPostponedInside,
-    GroupSeveralRequests,
-    /// A receiver inside that gets two values; one with a queue that loses one.
-    GroupReceiverTwice,
-    GroupValueLost,
-    /// A count of filter 14 that returns to 0: of a send object; of a receive object, by an
-    /// indication and by a send inside.
-    SendCountReturns,
-    IndicationCountReturns,
-    InternalCountReturns,
-    /// A count that goes on for a value that a full queue loses, and for one that is dropped.
-    LostCountGoesOn,
-    DroppedCountGoesOn,
-    /// An initialise between two filterings, with a count that is not 0 and stays: of a send and of
-    /// a receive object.
-    InitialiseBetweenSends,
-    InitialiseBetweenArrivals,
-    /// A filtering of an object behind 256 others since the start: the period is no power of two;
-    /// a count that wraps at 256 would have judged otherwise.
-    FilteredPast256,
-    NotAsWrapped,
-    /// A memory that differs from a good one in one count alone: as large as the period, and 1
-    /// with another filter, both refused; the period less one, not refused.
-    CountOfPeriodRefused,
-    CountOfOneRefused,
-    GreatestCountAccepted,
-    /// A kept value that changes a bit which stands from another reading of its I-PDU: by what each
-    /// was kept, whose number is lower, with the same places, and with one that goes down in the
-    /// other order; inside one group. A dropped value that would have changed one. A reading that
-    /// is covered in part.
-    StartCoversStart,
-    SendCoversStart,
-    SendCoversSend,
-    SendCoversInitialise,
-    InitialiseCoversSend,
-    LowerCoversHigher,
-    HigherCoversLower,
-    SameBitsCovered,
-    OtherOrderCovered,
-    GroupCoversGroup,
-    DroppedCoversNothing,
-    OlderInPart,
-}
+pub use crate::events::Event;
 use Event::*;
-
-const EVENTS: [Event; 73] = [
-    RequestBySend, PostponedBySend, RequestByTick, PostponedMadeByTick, DelayRunOut, DeadlineRunOut,
-    FiredOpenPeriodic, FiredOpenMixed, FiredWanted, ReceiveTimerRunOut, StopPeriodicWanted,
-    StartRunning, StartOpen, ShortAreaSend, ShortAreaTick, ValueLost,
-    DeadlineOfZero, CountdownOfZero, OverflowOfEmptyQueue, BytesBehindLength,
-    StartOverZeros, ZerosStopped, ZerosOutOfRange,
-    GroupEmpty, GroupSixteen, GroupTooMany, GroupCutPair, GroupStatusesShort, GroupStatusesLong,
-    GroupWrongTable, GroupShortArea, GroupOverStopped, GroupFiveNotTwo, GroupSixNotTwo,
-    GroupRangeNotTwo, GroupSevenNotTwo, GroupWrongPairGoesOn, GroupReceiveObject,
-    GroupByteFrom128, GroupRecordAbove255, GroupSameObjectTwice, GroupJudgedAnew, GroupFourteen,
-    GroupCountReturns, GroupPendingAfterTriggered, GroupPostponedInside, GroupSeveralRequests,
-    GroupReceiverTwice, GroupValueLost,
-    SendCountReturns, IndicationCountReturns, InternalCountReturns, LostCountGoesOn,
-    DroppedCountGoesOn, InitialiseBetweenSends, InitialiseBetweenArrivals, FilteredPast256,
-    NotAsWrapped, CountOfPeriodRefused, CountOfOneRefused, GreatestCountAccepted,
-    StartCoversStart, SendCoversStart, SendCoversSend, SendCoversInitialise, InitialiseCoversSend,
-    LowerCoversHigher, HigherCoversLower, SameBitsCovered, OtherOrderCovered, GroupCoversGroup,
-    DroppedCoversNothing, OlderInPart,
-];
 
 pub struct Met {
     events: [u64; EVENTS.len()],
     /// How often each number was answered.
-    numbers: [u64; 9],
-    /// How often each call was accepted, in the order of document 01, then groups in either form.
+    numbers: [u64; 11],
+    /// How often each call was accepted, in the order of document 01, then groups in either form,
+    /// begins and drains.
     accepted: [u64; KINDS],
     /// How often each mark was read.
     marks: [u64; 4],
     /// Of each filter, how many values it dropped and passed.
     judged: [[u64; 2]; 15],
     /// How often each number was answered over a changed memory.
-    changed_numbers: [u64; 9],
+    changed_numbers: [u64; 11],
     /// How often each call was made over a changed memory: done and refused where its numbers are
     /// in their ranges, and where one is not.
     changed: [[u64; 3]; KINDS],
+    pub refused: Refused,
 }
 
 impl Met {
     pub fn new() -> Met {
         Met {
             events: [0; EVENTS.len()],
-            numbers: [0; 9],
+            numbers: [0; 11],
             accepted: [0; KINDS],
             marks: [0; 4],
             judged: [[0; 2]; 15],
-            changed_numbers: [0; 9],
+            changed_numbers: [0; 11],
             changed: [[0; 3]; KINDS],
+            refused: [[[0; 11]; 11]; 2],
         }
     }
 
@@ -189,7 +66,7 @@ impl Met {
             Act::Call(call) if !call.refused_by(answer.number) => {
                 self.note_done(call, answer, &before.ipdus, &after.ipdus);
             }
-            Act::Call(_) => {}
+            Act::Call(_) | Act::Sheet(_) => {}
             Act::Group(group) => self.note_group(group, answer, before),
         }
     }
@@ -295,12 +172,13 @@ impl Met {
             }
         };
         EVENTS.iter().for_each(|e| look(format!("{e:?}"), self.events[*e as usize]));
-        (0..9).for_each(|n| look(format!("answer {n}"), self.numbers[n]));
+        // No call answers 9.
+        (0..11).for_each(|n| look(format!("answer {n}"), self.numbers[n] + (n == 9) as u64));
         (0..KINDS).for_each(|n| look(format!("call {n}"), self.accepted[n]));
         (0..4).for_each(|bit| look(format!("mark {}", 1 << bit), self.marks[bit]));
         // A changed memory is lent with a right table; over one in its ranges a start is done.
         for (n, times) in self.changed_numbers.iter().enumerate() {
-            look(format!("answer {n} over a changed memory"), times + (n == 5) as u64);
+            look(format!("answer {n} over a changed memory"), times + (n == 5 || n == 9) as u64);
         }
         for (n, [done, refused, out_of_range]) in self.changed.iter().enumerate() {
             look(format!("call {n} done over a changed memory"), *done);
@@ -312,14 +190,16 @@ impl Met {
             look(format!("drop by filter {f}"), dropped + (f == 0) as u64);
             look(format!("pass by filter {f}"), passed + (f == 1) as u64);
         }
+        list.extend(self.missing_on_sheets());
         list
     }
 
     pub fn print(&self) {
-        println!("answers 0 to 8: {:?}; marks read: {:?}", self.numbers, self.marks);
+        println!("answers 0 to 10: {:?}; marks read: {:?}", self.numbers, self.marks);
         let times = |e: &Event| format!("{e:?} {}", self.events[*e as usize]);
         println!("{}", EVENTS.iter().map(times).collect::<Vec<_>>().join(", "));
-        println!("over changed memories, answers 0 to 8: {:?}", self.changed_numbers);
+        println!("over changed memories, answers 0 to 10: {:?}", self.changed_numbers);
         println!("each call done, refused, and with a number out of range: {:?}", self.changed);
+        self.print_on_sheets();
     }
 }

@@ -48,6 +48,7 @@ impl Rows {
                     self.follow_call(&pair.send(), &was, &layer, &mut met)?;
                 }
             }
+            Act::Sheet(_) => {}
         }
         Ok(met)
     }
