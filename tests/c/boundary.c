@@ -1,6 +1,7 @@
 /*
- * Every function of birnenschloss.h but the group send, which groups.c has, called from C; the
- * answers are worked out by hand from document 01. Memory and area are longer than needed, so that
+ * Every function of birnenschloss.h called from C, but of the group send and the sheets, which
+ * groups.c and sheets.c have, no more than what all calls are refused for; the answers are worked
+ * out by hand from document 01. Memory and area are longer than needed, so that
  * lengths and pointers that change places would show, and their ends must stay.
  */
 #define TEST "boundary.c"
@@ -54,8 +55,30 @@ static const uint8_t one_queue[64] = {
     (ANSWERS(birnenschloss_check(lent.table, n), 5, place), LENGTH(n, 0, 0), LENGTH(n, 2, 0))
 #define TEXT(number) birnenschloss_number_text(number)
 
-/* Call n of the thirteen, with these lengths and otherwise right arguments. */
-enum { START, STOP, SEND = 2, TICK = 12, CALLS = 13 };
+/* Call n, with these lengths and otherwise right arguments: the thirteen, then begin, drain and
+ * group. What these are lent besides must stay: all they answer here is a refusal. */
+enum { START, STOP, SEND = 2, TICK = 12, BEGIN, DRAIN, GROUP, CALLS };
+
+static birnenschloss_answer later(int n, const uint8_t *t, size_t tn, uint8_t *m, size_t mn,
+                                  uint8_t *a, size_t an)
+{
+    static const uint8_t begun[16] = {1, 0, 0, 0, 1, 0, 0, 0, QUEUE}, pair[5] = {READING, 1};
+    static const uint32_t objects[] = {QUEUE};
+    static struct { uint8_t sheet[520], text[1536], status; } more, same;
+    birnenschloss_answer got;
+    memset(&more, 0xEE, sizeof more);
+    if (n == DRAIN)
+        memcpy(more.sheet, begun, sizeof begun);
+    memcpy(&same, &more, sizeof more);
+    if (n == BEGIN)
+        got = birnenschloss_sheet_begin(t, tn, m, mn, more.sheet, 520, objects, 1);
+    else if (n == DRAIN)
+        got = birnenschloss_sheet_drain(t, tn, m, mn, more.sheet, 520, more.text, 1536);
+    else
+        got = birnenschloss_send_group(t, tn, m, mn, a, an, pair, 5, &more.status, 1);
+    REQUIRE(memcmp(&more, &same, sizeof more) == 0);
+    return got;
+}
 
 static birnenschloss_answer any(int n, size_t tn, size_t mn, size_t an)
 {
@@ -75,7 +98,8 @@ static birnenschloss_answer any(int n, size_t tn, size_t mn, size_t an)
     case 9: return birnenschloss_stop_periodic(t, tn, m, mn);
     case 10: return birnenschloss_indication(t, tn, m, mn, INCOMING, 1, bytes, 2);
     case 11: return birnenschloss_confirm(t, tn, m, mn, DIRECT, 1);
-    default: return birnenschloss_tick(t, tn, m, mn, a, an);
+    case TICK: return birnenschloss_tick(t, tn, m, mn, a, an);
+    default: return later(n, t, tn, m, mn, a, an);
     }
 }
 
@@ -117,14 +141,16 @@ static void texts(void)
 {
     const char *memory = TEXT(BIRNENSCHLOSS_E_MEMORY);
     uint32_t n, k;
-    for (n = 0; n <= 9; n++) {
+    for (n = 0; n <= 10; n++) {
         REQUIRE(strlen(TEXT(n)) > 0 && !strpbrk(TEXT(n), ".\n"));
         for (k = 0; k < n; k++)
             REQUIRE(strcmp(TEXT(n), TEXT(k)) != 0);
     }
     for (n = 9; n != 0; n *= 2)
         REQUIRE(strcmp(TEXT(n), TEXT(0xFFFFFFFF)) == 0);
+    REQUIRE(strcmp(TEXT(11), TEXT(9)) == 0 && strstr(TEXT(BIRNENSCHLOSS_E_FOLLOWED), "16"));
     REQUIRE(strstr(memory, "8192") && strstr(memory, "256") && strstr(memory, "start"));
+    REQUIRE(strstr(memory, "520") && strstr(memory, "1536") && strstr(memory, "begun"));
     REQUIRE(strstr(TEXT(E_COM_LENGTH), "I-PDU") && strstr(TEXT(E_COM_LENGTH), "group"));
     REQUIRE(strstr(TEXT(E_OK), "done") && strstr(TEXT(BIRNENSCHLOSS_E_NOT_REQUESTED), "request"));
 }
@@ -148,7 +174,7 @@ static void too_short(void)
         for (i = 0; i < 5; i++)
             REFUSES(any(n, table_lengths[i], 0, 0), 5);
         for (i = 0; i < 3; i++)
-            if (n == SEND || n == TICK)
+            if (n == SEND || n == TICK || n == GROUP)
                 REFUSES(any(n, TABLE_SIZE, MEMORY_LENT, area_lengths[i]), 6);
     }
     lent.table[16] = 0; /* the direction of an I-PDU: the place is the check's alone */

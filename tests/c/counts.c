@@ -84,6 +84,8 @@ static void one_in_three(int initialises)
 static void all_refuse(void)
 {
     static const uint8_t pair[BIRNENSCHLOSS_PAIR_SIZE] = {COUNTED, 1, 0, 0, 0};
+    static uint8_t sheet[BIRNENSCHLOSS_SHEET_SIZE] = {1}, text[BIRNENSCHLOSS_SHEET_TEXT_SIZE];
+    static const uint32_t inside[] = {INSIDE};
     uint8_t status = 0xC3;
     REFUSES(birnenschloss_stop(LENT), BIRNENSCHLOSS_E_MEMORY);
     REFUSES(birnenschloss_send(LENT, AREA, COUNTED, 1), BIRNENSCHLOSS_E_MEMORY);
@@ -100,6 +102,10 @@ static void all_refuse(void)
     REFUSES(birnenschloss_indication(LENT, 0, 0, pair, 0), BIRNENSCHLOSS_E_MEMORY);
     REFUSES(birnenschloss_confirm(LENT, 0, 1), BIRNENSCHLOSS_E_MEMORY);
     REFUSES(birnenschloss_tick(LENT, AREA), BIRNENSCHLOSS_E_MEMORY);
+    REFUSES(birnenschloss_sheet_begin(LENT, sheet, sizeof sheet, inside, 0),
+            BIRNENSCHLOSS_E_MEMORY);
+    REFUSES(birnenschloss_sheet_drain(LENT, sheet, sizeof sheet, text, sizeof text),
+            BIRNENSCHLOSS_E_MEMORY);
 }
 
 /* The counts of an object that a call is done over: those below so many, and no other. */
