@@ -272,8 +272,6 @@ static void lengths(void)
     REQUIRE(lent.sheet[SHEET_SIZE + 3] == 0xEE);
 }
 
-#include "sheets_refused.h"
-
 int main(void)
 {
     values();
@@ -283,9 +281,6 @@ int main(void)
     ends();
     longest();
     lengths();
-    wrong_lists();
-    wrong_sheets();
-    order();
     printf(TEST ": %u answers as they should be\n", answers);
     return 0;
 }

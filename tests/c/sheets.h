@@ -1,4 +1,4 @@
-/* For sheets.c: its table, what it lends, and begins and drains with any lengths. */
+/* For sheets.c and sheets_refused.c: their table, what it lends, and begins and drains with any lengths. */
 #ifndef SHEETS_H
 #define SHEETS_H
 
@@ -55,18 +55,13 @@ static struct lent {
 #define SEND(value) ANSWERS(send_inside(value), 0, 0)
 #define ARRIVE(value) ANSWERS(arrive(value), 0, 0)
 #define FAIL(ipdu) ANSWERS(birnenschloss_indication(LENT, ipdu, 0, lent.table, 0), 0, 0)
-#define TICK() ANSWERS(tick(), 0, 0)
+#define TICK() ANSWERS(birnenschloss_tick(LENT, area, sizeof area), 0, 0)
 
 static uint8_t area[BIRNENSCHLOSS_AREA_SIZE];
 
 static birnenschloss_answer send_inside(uint32_t value)
 {
     return birnenschloss_send(LENT, area, sizeof area, SENT, value);
-}
-
-static birnenschloss_answer tick(void)
-{
-    return birnenschloss_tick(LENT, area, sizeof area);
 }
 
 static void put_four(uint8_t *bytes, uint32_t number)
@@ -96,14 +91,6 @@ static void fresh(void)
     for (i = 0; i < OBJECTS; i++)
         memcpy(lent.table + RECORDS + 32 * i, objects[i < MANY ? i : MANY], 8);
     ANSWERS(birnenschloss_start(LENT), 0, 0);
-}
-
-/* Of lent.objects, the first so many, from MANY on by one. */
-static void put_many(uint32_t count)
-{
-    uint32_t i;
-    for (i = 0; i < count; i++)
-        lent.objects[i] = MANY + i % 17;
 }
 
 /* A begin over the first objects, and a drain, with these lengths. */

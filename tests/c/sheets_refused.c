@@ -1,6 +1,17 @@
-/* For sheets.c: begins and drains that are refused with 1, 10 and 6, and the order of refusals. */
-#ifndef SHEETS_REFUSED_H
-#define SHEETS_REFUSED_H
+/*
+ * Begins and drains of a journey sheet that are refused, called from C: with 1, 10 and 6, and the
+ * order of refusals. Each must leave all that is lent, and the bytes behind it.
+ */
+#define TEST "sheets_refused.c"
+#include "sheets.h"
+
+/* Of lent.objects, the first so many, from MANY on by one. */
+static void put_many(uint32_t count)
+{
+    uint32_t i;
+    for (i = 0; i < count; i++)
+        lent.objects[i] = MANY + i % 17;
+}
 
 static const uint32_t wrong_objects[] = {
     SENT, LAST, OBJECTS, 128, 255, 256 + CLIMATE, 65536 + CLIMATE, 0x80000000u + CLIMATE,
@@ -13,6 +24,11 @@ enum { WRONG = sizeof wrong_objects / sizeof wrong_objects[0] };
 static void wrong_lists(void)
 {
     static const size_t counts[] = {17, 18, 255, 256, 257, 256 + MOST, ROOM};
+    static const char lines[] =
+        "5 0 - - - - 0 0\n6 0 - - - - 0 0\n7 0 - - - - 0 0\n8 0 - - - - 0 0\n"
+        "9 0 - - - - 0 0\n10 0 - - - - 0 0\n11 0 - - - - 0 0\n12 0 - - - - 0 0\n"
+        "13 0 - - - - 0 0\n14 0 - - - - 0 0\n15 0 - - - - 0 0\n16 0 - - - - 0 0\n"
+        "17 0 - - - - 0 0\n18 0 - - - - 0 0\n19 0 - - - - 0 0\n20 0 - - - - 0 0\n";
     uint32_t i, k;
     fresh();
     for (i = 0; i < MOST + 3; i++)
@@ -35,10 +51,8 @@ static void wrong_lists(void)
     for (i = 0; i < 7; i++)
         REFUSES(BEGIN_LENT(counts[i]), BIRNENSCHLOSS_E_FOLLOWED);
     ANSWERS(BEGIN_LENT(MOST), 0, 0); /* the same ones, sixteen of them */
-    DRAIN("5 0 - - - - 0 0\n6 0 - - - - 0 0\n7 0 - - - - 0 0\n8 0 - - - - 0 0\n"
-          "9 0 - - - - 0 0\n10 0 - - - - 0 0\n11 0 - - - - 0 0\n12 0 - - - - 0 0\n"
-          "13 0 - - - - 0 0\n14 0 - - - - 0 0\n15 0 - - - - 0 0\n16 0 - - - - 0 0\n"
-          "17 0 - - - - 0 0\n18 0 - - - - 0 0\n19 0 - - - - 0 0\n20 0 - - - - 0 0\n");
+    ANSWERS(DRAIN_LENT(), 0, sizeof lines - 1);
+    REQUIRE(memcmp(lent.text, lines, sizeof lines - 1) == 0);
 }
 
 /* Drains of bytes that were never begun, or that something else has written: 6 for the head, 1 and
@@ -140,4 +154,11 @@ static void order(void)
         }
 }
 
-#endif
+int main(void)
+{
+    wrong_lists();
+    wrong_sheets();
+    order();
+    printf(TEST ": %u answers as they should be\n", answers);
+    return 0;
+}
