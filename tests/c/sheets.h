@@ -1,4 +1,4 @@
-/* For sheets.c and sheets_refused.c: their table, what it lends, and begins and drains with any lengths. */
+/* For sheets.c and sheets_refused.c: their table, what they lend, begins and drains of any length. */
 #ifndef SHEETS_H
 #define SHEETS_H
 

@@ -4,16 +4,16 @@ use crate::linked::Answer;
 use crate::table::WrongRecord;
 use core::fmt;
 
-/// Why a call was refused. A refused call leaves the memory, the request area and the statuses of a
-/// group as they were.
+/// Why a call was refused. A refused call leaves the memory, the request area, the statuses of a
+/// group, a sheet and a text as they were.
 ///
 /// Number 3, a value lost by a full queue, is no error: see [`Received`] and [`Status`]. A receive
 /// that gives it has removed the value and cleared the overflow.
 #[derive(Clone, Copy, Debug, PartialEq, Eq, Hash)]
 pub enum Error {
     /// 1, E_COM_ID: the number is too large or of the wrong kind: a receive where a send object
-    /// or I-PDU is wanted or the other way round, or in [`status`](crate::Layer::status) an
-    /// object with no queue.
+    /// or I-PDU is wanted or the other way round, or in [`status`](crate::Layer::status) and in a
+    /// [`Sheet`](crate::Sheet) an object with no queue.
     Id,
     /// 2, E_COM_LENGTH: not as many bytes as the I-PDU has; or a group of more than 16 pairs, with
     /// a pair cut off, or not with a status for each.
@@ -29,6 +29,8 @@ pub enum Error {
     Stopped,
     /// 8: a confirm where no request is open.
     NoRequest,
+    /// 10: a [`Sheet`](crate::Sheet) for more than 16 objects, or for one twice.
+    Followed,
 }
 
 impl Error {
@@ -42,6 +44,7 @@ impl Error {
             Error::Memory => 6,
             Error::Stopped => 7,
             Error::NoRequest => 8,
+            Error::Followed => 10,
         }
     }
 
@@ -54,6 +57,7 @@ impl Error {
             6 => Error::Memory,
             7 => Error::Stopped,
             8 => Error::NoRequest,
+            10 => Error::Followed,
             // Ruled out by the proved contracts of the calls.
             _ => unreachable!("an answer has no such number"),
         }
@@ -78,11 +82,12 @@ impl fmt::Display for Error {
             Error::NoMessage => "the queue is empty",
             Error::Table => "the table is wrong",
             Error::Memory => {
-                "memory or request area refused: ask if they have 8192 and 256 bytes, \
-                 and if the layer was started over this table"
+                "memory, request area, sheet or text refused: ask if they have 8192, 256, 520 and \
+                 1536 bytes, if the layer was started over this table, and if the sheet was begun"
             }
             Error::Stopped => "the layer is stopped, or was never started",
             Error::NoRequest => "no request of this I-PDU is open",
+            Error::Followed => "a sheet for more than 16 objects, or for one twice",
         })
     }
 }

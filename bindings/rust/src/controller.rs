@@ -6,6 +6,7 @@ use crate::layer::{Layer, Outcome};
 use crate::lent::{Area, Frames, Memory, Requests, AREA_SIZE, MEMORY_SIZE};
 use crate::linked;
 use crate::numbers::{IpduNumber, ObjectNumber};
+use crate::sheet::{Sheet, SheetText};
 use crate::table::Table;
 use core::marker::PhantomData;
 
@@ -172,6 +173,23 @@ impl<'t> Controller<'t, Started> {
     pub fn tick(&mut self) -> Requests {
         let (mut layer, area) = self.layer_and_area();
         granted(layer.tick(area))
+    }
+
+    /// As [`Layer::begin_sheet`].
+    pub fn begin_sheet(&self, objects: &[ObjectNumber]) -> Result<Sheet, Error> {
+        let mut sheet = Sheet::unwritten();
+        let (t, s) = (self.table.bytes(), sheet.bytes_mut());
+        answers::done(linked::sheet_begin(t, &self.memory, s, objects))?;
+        Ok(sheet)
+    }
+
+    /// As [`Layer::drain_sheet`].
+    pub fn drain_sheet<'x>(
+        &mut self,
+        sheet: &mut Sheet,
+        text: &'x mut SheetText,
+    ) -> Result<&'x str, Error> {
+        self.layer().drain_sheet(sheet, text)
     }
 
     /// The bytes of an I-PDU that this controller's last send, group send or tick has requested;

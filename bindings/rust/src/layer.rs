@@ -1,10 +1,11 @@
-//! The thirteen calls and the group send.
+//! The thirteen calls, the group send and the journey sheet.
 
 use crate::answers::{self, Error, Marks, Received, Status};
 use crate::group::{Pair, PairStatus, MOST_PAIRS};
 use crate::lent::{Area, Memory, Requests, MEMORY_SIZE};
 use crate::linked;
 use crate::numbers::{IpduNumber, ObjectNumber};
+use crate::sheet::{self, Sheet, SheetText};
 use crate::table::Table;
 
 /// How the transfer of an I-PDU went.
@@ -16,8 +17,8 @@ pub enum Outcome {
     NotGood,
 }
 
-/// The interaction layer: a checked table and working memory, with the thirteen calls and the group
-/// send.
+/// The interaction layer: a checked table and working memory, with the thirteen calls, the group
+/// send and the journey sheet.
 ///
 /// [`start`](Layer::start) comes first. Over memory that was never started, the other calls are
 /// refused with [`Error::Memory`] where a stored number is out of its range, and over memory of
@@ -222,6 +223,61 @@ impl<'t, 'm> Layer<'t, 'm> {
     pub fn tick(&mut self, area: &mut Area) -> Result<Requests, Error> {
         let (t, m) = self.lent();
         answers::value(linked::tick(t, m, area)).map(Requests::of)
+    }
+
+    /// A new sheet that follows these objects, each a queued receive object; nothing is drained yet.
+    /// An empty list is allowed.
+    ///
+    /// [`Error::Id`] where one is not a queued receive object; [`Error::Followed`] where there are
+    /// more than [`Sheet::MOST_FOLLOWED`], or one twice.
+    pub fn begin_sheet(&self, objects: &[ObjectNumber]) -> Result<Sheet, Error> {
+        let mut sheet = Sheet::unwritten();
+        let (t, m) = (self.table.bytes(), self.memory.bytes());
+        answers::done(linked::sheet_begin(t, m, sheet.bytes_mut(), objects))?;
+        Ok(sheet)
+    }
+
+    /// Drains the objects of a sheet in the order given: receives each until its queue is empty,
+    /// then reads its marks, and clears them where they hold a receive error. Gives the lines of
+    /// the sheet, one for each object: its number, how many values were drained since the sheet was
+    /// begun, the first, last, least and greatest, overflows, errors. Where nothing was drained the
+    /// four values are `-`.
+    ///
+    /// A sheet that was begun over this table is no reason to refuse. Over another table:
+    /// [`Error::Id`] where one of the objects is not a queued receive object there.
+    ///
+    /// ```
+    /// use birnenschloss::{IpduNumber, Layer, Memory, ObjectNumber, Outcome, Sheet, Table};
+    /// # use birnenschloss::MEMORY_SIZE;
+    /// # let mut bytes = [0; 64];
+    /// # bytes[..10].copy_from_slice(&[1, 0, 1, 0, 16, 0, 32, 0, 64, 0]);
+    /// # bytes[16..18].copy_from_slice(&[2, 1]);
+    /// # bytes[32..40].copy_from_slice(&[2, 0, 255, 0, 8, 0, 0, 2]);
+    /// # let table = Table::check(&bytes)?;
+    /// # let mut memory = [0xA5; MEMORY_SIZE];
+    ///
+    /// const HUMIDITY: ObjectNumber = ObjectNumber(0); // of 8 bits, with a queue of depth 2
+    ///
+    /// let mut layer = Layer::new(table, Memory::from(&mut memory));
+    /// layer.start()?;
+    /// let (mut sheet, mut text) = (layer.begin_sheet(&[HUMIDITY])?, [0; Sheet::TEXT_SIZE]);
+    /// assert_eq!(layer.drain_sheet(&mut sheet, &mut text)?, "0 0 - - - - 0 0\n");
+    /// for value in [48, 46, 47] {
+    ///     layer.indication(IpduNumber(0), Outcome::Good, &[value])?; // 47 finds the queue full
+    /// }
+    /// assert_eq!(layer.drain_sheet(&mut sheet, &mut text)?, "0 2 48 46 46 48 1 0\n");
+    /// layer.indication(IpduNumber(0), Outcome::NotGood, &[])?;
+    /// assert_eq!(layer.drain_sheet(&mut sheet, &mut text)?, "0 2 48 46 46 48 1 1\n");
+    /// # Ok::<(), birnenschloss::Error>(())
+    /// ```
+    pub fn drain_sheet<'x>(
+        &mut self,
+        sheet: &mut Sheet,
+        text: &'x mut SheetText,
+    ) -> Result<&'x str, Error> {
+        let (t, m) = self.lent();
+        let length = answers::value(linked::sheet_drain(t, m, sheet.bytes_mut(), text))?;
+        Ok(sheet::lines(text, length))
     }
 
     fn lent(&mut self) -> (&'t [u8], &mut [u8]) {

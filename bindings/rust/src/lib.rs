@@ -30,7 +30,9 @@
 //! # Ok::<(), birnenschloss::Error>(())
 //! ```
 //!
-//! [`send_group`](Controller::send_group) sends up to [`MOST_PAIRS`] values by one call.
+//! [`send_group`](Controller::send_group) sends up to [`MOST_PAIRS`] values by one call. A [`Sheet`]
+//! follows queues through a journey: [`drain_sheet`](Controller::drain_sheet) empties them and says
+//! what came.
 //!
 //! A [`Layer`] has the same calls in [`Memory`] and an [`Area`] that the caller lends. It allocates
 //! nothing and keeps nothing of its own, and goes on where an earlier one has left its memory;
@@ -72,6 +74,7 @@ mod lent;
 #[allow(unsafe_code)]
 mod linked;
 mod numbers;
+mod sheet;
 mod table;
 
 pub use answers::{Error, Marks, Received, Status};
@@ -80,4 +83,5 @@ pub use group::{Pair, PairStatus, MOST_PAIRS};
 pub use layer::{Layer, Outcome};
 pub use lent::{Area, Frames, IpduNumbers, Memory, Requests, AREA_SIZE, MEMORY_SIZE};
 pub use numbers::{IpduNumber, ObjectNumber};
+pub use sheet::{Sheet, SheetText};
 pub use table::{Table, WrongRecord};

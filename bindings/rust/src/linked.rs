@@ -3,10 +3,11 @@
 //! A slice goes over as its start and its length. The start of a Rust slice is never null, also
 //! of an empty one. The functions are proved to stay inside what they are lent, for any contents.
 //! Nothing checks these declarations against the proved source; tests/calls.rs compares the
-//! behaviour of each with an independent layer, tests/groups.rs that of send_records, and the test
-//! in table.rs that of ipdu_length.
+//! behaviour of each with an independent layer, tests/groups.rs that of send_records, tests/sheets.rs
+//! that of sheet_begin and sheet_drain, and the test in table.rs that of ipdu_length.
 
 use crate::group::Pair;
+use crate::numbers::ObjectNumber;
 
 /// A number and what is returned with it.
 #[repr(C)]
@@ -51,6 +52,13 @@ extern "C" {
     ) -> Answer;
     fn birnenschloss_tick(
         t: *const u8, tn: usize, m: *mut u8, mn: usize, a: *mut u8, an: usize,
+    ) -> Answer;
+    fn birnenschloss_sheet_begin(
+        t: *const u8, tn: usize, m: *const u8, mn: usize, s: *mut u8, sn: usize,
+        o: *const ObjectNumber, on: usize,
+    ) -> Answer;
+    fn birnenschloss_sheet_drain(
+        t: *const u8, tn: usize, m: *mut u8, mn: usize, s: *mut u8, sn: usize, x: *mut u8, xn: usize,
     ) -> Answer;
 }
 
@@ -172,5 +180,38 @@ pub fn tick(t: &[u8], m: &mut [u8], a: &mut [u8]) -> Answer {
     // SAFETY: t, m and a are lent for the whole call; m and a are lent to nothing else.
     unsafe {
         birnenschloss_tick(t.as_ptr(), t.len(), m.as_mut_ptr(), m.len(), a.as_mut_ptr(), a.len())
+    }
+}
+
+pub fn sheet_begin(t: &[u8], m: &[u8], s: &mut [u8], o: &[ObjectNumber]) -> Answer {
+    // SAFETY: t, m, s and o are lent for the whole call; s is lent to nothing else. An ObjectNumber
+    // is a u32.
+    unsafe {
+        birnenschloss_sheet_begin(
+            t.as_ptr(),
+            t.len(),
+            m.as_ptr(),
+            m.len(),
+            s.as_mut_ptr(),
+            s.len(),
+            o.as_ptr(),
+            o.len(),
+        )
+    }
+}
+
+pub fn sheet_drain(t: &[u8], m: &mut [u8], s: &mut [u8], x: &mut [u8]) -> Answer {
+    // SAFETY: t, m, s and x are lent for the whole call; m, s and x are lent to nothing else.
+    unsafe {
+        birnenschloss_sheet_drain(
+            t.as_ptr(),
+            t.len(),
+            m.as_mut_ptr(),
+            m.len(),
+            s.as_mut_ptr(),
+            s.len(),
+            x.as_mut_ptr(),
+            x.len(),
+        )
     }
 }

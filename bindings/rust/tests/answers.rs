@@ -38,6 +38,7 @@ fn the_errors_have_their_numbers() {
             Table::check(&[]).unwrap_err().into(),
             never_started(),
             layer.confirm(SENT, Outcome::Good).unwrap_err(),
+            layer.begin_sheet(&[QUEUED, QUEUED]).unwrap_err(),
         ];
         layer.stop().unwrap();
         met.push(layer.tick(area).unwrap_err());
@@ -48,6 +49,7 @@ fn the_errors_have_their_numbers() {
             (Error::Table, 5),
             (Error::Memory, 6),
             (Error::NoRequest, 8),
+            (Error::Followed, 10),
             (Error::Stopped, 7),
         ];
         assert_eq!(met, errors.map(|(error, _)| error));
@@ -67,7 +69,8 @@ fn texts() -> Vec<&'static str> {
 #[test]
 fn the_errors_say_what_the_header_says() {
     let texts = texts();
-    assert_eq!(texts.len(), 10);
+    assert_eq!(texts.len(), 12);
+    assert_eq!(texts[9], texts[11]); // no call answers 9
     for error in [
         Error::Id,
         Error::Length,
@@ -76,6 +79,7 @@ fn the_errors_say_what_the_header_says() {
         Error::Memory,
         Error::Stopped,
         Error::NoRequest,
+        Error::Followed,
     ] {
         assert_eq!(error.to_string(), texts[error.number() as usize]);
     }
