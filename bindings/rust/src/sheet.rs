@@ -38,8 +38,9 @@ impl Sheet {
     /// The most objects that a sheet follows.
     pub const MOST_FOLLOWED: usize = 16;
 
+    /// For a begin. No zeros: what it writes does not depend on what was there.
     pub(crate) fn unwritten() -> Sheet {
-        Sheet { bytes: [0; Sheet::SIZE] }
+        Sheet { bytes: [0xA5; Sheet::SIZE] }
     }
 
     /// The sheet of these bytes; `None` where they are not those of a sheet that was begun. The

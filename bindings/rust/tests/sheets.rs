@@ -274,7 +274,11 @@ fn sheets_of_bytes() {
         for (at, byte) in [(0, 0), (0, 2), (1, 1), (3, 128), (4, 17), (4, 255), (5, 1), (7, 1)] {
             assert_eq!(with(at, byte), None);
         }
-        assert!(with(4, 16).is_some() && with(4, 0).is_some() && with(519, 1).is_some());
+        assert!(with(4, 16).is_some() && with(4, 0).is_some());
+        twins.sheet = with(519, 9).unwrap();
+        twins.drain("2 0 - - - - 0 0\n1 0 - - - - 0 0\n");
+        assert_eq!(twins.sheet.bytes()[519], 9); // of no object's row
+        twins.arrive(&[2]);
         twins.send(&[1]);
         for (byte, error) in [(SENT, Error::Id), (NO_OBJECT, Error::Id), (2, Error::Followed)] {
             twins.sheet = with(40, byte as u8).unwrap();
@@ -285,7 +289,7 @@ fn sheets_of_bytes() {
             bytes[at..at + 4].copy_from_slice(&u32::MAX.to_le_bytes());
         }
         twins.sheet = Sheet::from_bytes(bytes).unwrap();
-        twins.drain("2 0 - - - - 0 0\n1 4294967295 0 1 0 1 4294967295 4294967295\n");
+        twins.drain("2 1 2 2 2 2 0 0\n1 4294967295 0 1 0 1 4294967295 4294967295\n");
     });
 }
 
