@@ -1,7 +1,7 @@
 // The two layers on random calls, over random tables and memories, on copies of the same bytes: answer, memory, request
 // area and status list have to be the same. Tables and calls are those of tests/layer; its reference only helps to
 // choose calls that meet something. Every byte of every table, and of the rows in memory, is also changed alone.
-use crate::act::{Act, KINDS};
+use crate::act::{Act, LAYER_KINDS};
 use crate::call::Call;
 use crate::make::{memory, often_filtered, right, scramble, wrong};
 use crate::make_group::{act, filtering};
@@ -17,7 +17,7 @@ const AREA: usize = 256;
 const OBJECT_ROWS: usize = 784;
 
 /// The calls by kind, and the numbers that each has to answer somewhere.
-const WANTED: [(&str, &[usize]); KINDS] = [
+const WANTED: [(&str, &[usize]); LAYER_KINDS] = [
     ("start", &[0, 5, 6]),
     ("stop", &[0, 5, 6, 7]),
     ("send", &[0, 1, 5, 6, 7]),
@@ -59,7 +59,7 @@ struct Test {
     faults: u64,
     tables: u64,
     checks: u64,
-    answers: [[u64; 9]; KINDS],
+    answers: [[u64; 9]; LAYER_KINDS],
     events: [u64; EVENTS.len()],
 }
 
@@ -269,7 +269,7 @@ impl Test {
 
 pub fn agree(seed: u64, count: u64) {
     let run = Run { random: seed.wrapping_mul(0x9E37_79B9_7F4A_7C15) | 1, counts: [0; 4] };
-    let (answers, events) = ([[0; 9]; KINDS], [0; EVENTS.len()]);
+    let (answers, events) = ([[0; 9]; LAYER_KINDS], [0; EVENTS.len()]);
     let mut test = Test { seed, run, calls: 0, faults: 0, tables: 0, checks: 0, answers, events };
     while test.calls < count {
         let table = if test.tables % 4 == 0 { test.deep() } else { right(&mut test.run) };

@@ -38,6 +38,9 @@ mod records;
 #[path = "../tests/layer/reference.rs"]
 #[allow(dead_code)]
 mod reference;
+#[path = "../tests/layer/sheet.rs"]
+#[allow(dead_code)]
+mod sheet;
 #[path = "../tests/layer/stored.rs"]
 #[allow(dead_code)]
 mod stored;

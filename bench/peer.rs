@@ -152,6 +152,7 @@ pub fn make(by: &Calls, act: &Act, table: &[u8], m: &mut [u8], area: &mut [u8], 
                     (by.send_records)(t, tn, m, mn, area, an, pairs.as_ptr().cast(), pairs.len(), statuses, sn)
                 }
             },
+            Act::Sheet(_) => unreachable!("the peer has no sheet, and none is made here"),
         }
     };
     (answer.number, answer.value)

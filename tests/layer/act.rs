@@ -15,8 +15,11 @@ pub enum Act {
     Sheet(OnSheet),
 }
 
-/// The calls of document 01 in its order, a group as bytes, a group as records, a begin, a drain.
-pub const KINDS: usize = 17;
+/// The calls of document 01 in its order, a group as bytes, a group as records.
+pub const LAYER_KINDS: usize = 15;
+
+/// And a begin, a drain.
+pub const KINDS: usize = LAYER_KINDS + 2;
 
 /// What is lent besides table, memory and area, with the bytes behind it: the status list of a
 /// group, all sheets, the text of a drain.
@@ -66,14 +69,18 @@ impl Act {
         }
     }
 
+    /// The status list of a group as it is before, with the bytes behind it.
+    pub fn statuses(&self) -> Vec<u8> {
+        match self {
+            Act::Group(group) => group.statuses.clone(),
+            _ => Vec::new(),
+        }
+    }
+
     /// What is lent, as it is before.
     pub fn lists(&self, sheets: &[Vec<u8>]) -> Lists {
-        let (statuses, text) = match self {
-            Act::Call(_) => (Vec::new(), Vec::new()),
-            Act::Group(group) => (group.statuses.clone(), Vec::new()),
-            Act::Sheet(on) => (Vec::new(), on.text()),
-        };
-        Lists { statuses, sheets: sheets.to_vec(), text }
+        let text = if let Act::Sheet(on) = self { on.text() } else { Vec::new() };
+        Lists { statuses: self.statuses(), sheets: sheets.to_vec(), text }
     }
 
     pub fn by_reference(

@@ -6,7 +6,7 @@ use crate::group::Group;
 use crate::journeys::Journeys;
 use crate::kept::Latest;
 use crate::library::Library;
-use crate::make_group::act;
+use crate::make_sheet::act;
 use crate::met::Event;
 use crate::reference::Layer;
 use crate::rows::Rows;

@@ -41,7 +41,7 @@ mod table;
 use act::Act;
 use call::Call;
 use list::{Lent, List};
-use make_group::act;
+use make_sheet::act;
 use met::Met;
 use reference::Layer;
 use table::Run;

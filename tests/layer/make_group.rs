@@ -1,21 +1,15 @@
-//! The random groups of the test, and calls, groups, begins and drains mixed. As the maker of
-//! calls, the maker of groups looks at the state of the reference only to meet interesting places.
+//! The random groups of the test, and calls and groups mixed. As the maker of calls, the maker of
+//! groups looks at the state of the reference only to meet interesting places.
 
 use crate::act::Act;
 use crate::group::{Form, Group, Pair};
 use crate::make::{self, call, scramble, value_for};
-use crate::make_sheet::on_sheet;
 use crate::records::Object;
 use crate::reference::Layer;
 use crate::table::Run;
 
-/// A call, or one time in eight a group; seldom where the table has no object to send. As often a
-/// begin or a drain; seldom where the table has no queue.
+/// A call, or one time in eight a group; seldom where the table has no object to send.
 pub fn act(run: &mut Run, layer: &Layer, style: usize) -> Act {
-    let seldom = if layer.objects.iter().any(|o| o.depth > 0) { 8 } else { 80 };
-    if run.below(seldom) == 0 {
-        return Act::Sheet(on_sheet(run, layer));
-    }
     let seldom = if layer.objects.iter().any(|o| o.sends) { 8 } else { 80 };
     if run.below(seldom) == 0 {
         let pool = pool(run, layer);

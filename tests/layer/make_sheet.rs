@@ -1,9 +1,10 @@
-//! The random begins and drains of the test, and sheets that no list of calls has left.
+//! The random begins and drains of the test, with calls and groups between them, and sheets that no
+//! list of calls has left.
 
 use crate::act::Act;
 use crate::call::Call;
 use crate::make::scramble;
-use crate::make_group::{act, filtering};
+use crate::make_group::{self, filtering};
 use crate::reference::Layer;
 use crate::sheet::{rows, OnSheet, What, MOST, SHEET, TEXT};
 use crate::table::Run;
@@ -29,8 +30,17 @@ pub fn sheets(run: &mut Run, last: &[Vec<u8>]) -> Vec<Vec<u8>> {
     sheets
 }
 
+/// A call or a group, or one time in eight a begin or a drain; seldom where the table has no queue.
+pub fn act(run: &mut Run, layer: &Layer, style: usize) -> Act {
+    let seldom = if layer.objects.iter().any(|o| o.depth > 0) { 8 } else { 80 };
+    if run.below(seldom) == 0 {
+        return Act::Sheet(on_sheet(run, layer));
+    }
+    make_group::act(run, layer, style)
+}
+
 /// A begin or, more often, a drain.
-pub fn on_sheet(run: &mut Run, layer: &Layer) -> OnSheet {
+fn on_sheet(run: &mut Run, layer: &Layer) -> OnSheet {
     let begins = run.below(if layer.stopped { 2 } else { 5 }) == 0;
     let what = if begins { What::Begin(objects(run, layer)) } else { drain(run) };
     OnSheet { sheet: run.below(6), lent: sheet_lent(run), what }
