@@ -42,12 +42,13 @@ static void begun(const uint32_t *list, size_t count, const char *lines, int lin
 static void received_singly(uint8_t *memory)
 {
     uint8_t *row = lent.sheet + 8;
-    uint32_t i;
+    birnenschloss_answer a;
+    uint32_t i, k;
     for (i = 0; i < lent.sheet[4]; i++, row += 32) {
         uint32_t object = row[0]; /* below 256 */
-        while (birnenschloss_receive(lent.table, TABLE_SIZE, memory, MEMORY_LENT, object).number !=
-               E_COM_NOMSG)
-            ;
+        a.number = E_OK;
+        for (k = 0; k <= 16 && a.number != E_COM_NOMSG; k++) /* no queue has more than 16 values */
+            a = birnenschloss_receive(lent.table, TABLE_SIZE, memory, MEMORY_LENT, object);
         if (birnenschloss_marks(lent.table, TABLE_SIZE, memory, MEMORY_LENT, object).value &
             BIRNENSCHLOSS_MARK_RECEIVE_ERROR)
             birnenschloss_clear_marks(lent.table, TABLE_SIZE, memory, MEMORY_LENT, object);
@@ -65,6 +66,7 @@ static void drained(const char *lines, int line)
     NOTE_BYTES();
     a = DRAIN_LENT();
     memcpy(what + start, lent.text, TEXT_SIZE);
+    what[strcspn(what, "#")] = 0; /* the filling */
     require(memcmp(lent.text, lines, length) == 0, line, what);
     answered(a, 0, (uint32_t)length, line);
     memcpy(before.text, lines, length);

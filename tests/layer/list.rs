@@ -141,7 +141,8 @@ impl List<'_> {
         let mut ask = |call: Call| library.call(self.table, &mut memory, &call, &mut []);
         if let What::Drain(..) = on.what {
             for object in on.objects(&self.sheets) {
-                while ask(Call::Receive { object }).number != 4 {}
+                // A queue has at most sixteen values.
+                let _ = (0..17).any(|_| ask(Call::Receive { object }).number == 4);
                 if ask(Call::Marks { object }).value & 4 == 4 {
                     ask(Call::ClearMarks { object });
                 }
