@@ -178,7 +178,7 @@ pub fn damage(run: &mut Run, layer: &Layer, sheet: &mut [u8]) -> bool {
     let row = 8 + 32 * run.below(count.clamp(1, MOST));
     let stop = u32::MAX - run.below(3) as u32;
     let any = run.below(8);
-    match if count == MOST { run.pick(&[any, any, 5]) } else { any } {
+    match if count == MOST { run.pick(&[any, 5]) } else { any } {
         0 => {
             sheet[run.below(4)] = run.pick(&[0, 1, 2, 255]);
             false
