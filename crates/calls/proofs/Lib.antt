@@ -6,3 +6,4 @@ pub mod SendParts
 pub mod ReadyKept
 pub mod FilteredRows
 pub mod CountsKept
+pub mod Received

@@ -2,7 +2,6 @@
 -- search finds them. Assumes nothing.
 use mathlib.Core.Bool.{Bool, true, false, not, _&&_}
 use mathlib.Core.List.{List, _++_}
-use mathlib.Core.Logic.{⊎-elim}
 use mathlib.Core.Path.{_≡_, refl, sym, ap, _∙_}
 use Prim.Native.Nat.{ℕ, _≤_}
 use native.Mathlib.Omega.{arith}
@@ -12,7 +11,8 @@ use lib.ListN.{length, drop, take-append-drop}
 use lib.Seq.{length-take-le, take-append-seam}
 use Rattle.memory.specs.Bytes.{Bytes, part}
 use Rattle.memory.proofs.Parts.{part-bytes}
-use Rattle.memory.proofs.Tests.{and-split, true-or-false}
+use Rattle.memory.proofs.Search.{picked}
+use Rattle.memory.proofs.Tests.{and-split}
 use Rattle.table.specs.declared.Counts.{Counts}
 use Rattle.table.specs.declared.Verdict.{Verdict}
 use Rattle.table.specs.declared.Verdict.the-variants.{Accepted, WrongHeader, WrongIpdu, WrongObject}
@@ -31,28 +31,42 @@ use Rattle.layer.specs.Admission.{Open, Admits, workingMemory, admission
 pub refused-not : {c : Counts} (a : Answer) → Refused a ≡ Admitted c → ⊥
 refused-not a e = let z : _≡_ {A = ℕ} 0 1 = cc in omega arith
 
-module _ (t m : List ℕ) (fits : Bool) (bt : Bytes t) (bm : Bytes m) (c : Counts) where
-  opened : (v : Verdict) → check t ≡ v → admissionOf v t m fits ≡ Admitted c → Open t c m fits
-  unfolding part
-  opened WrongHeader h e = absurd (refused-not WrongTable e)
-  opened (WrongIpdu k) h e = absurd (refused-not WrongTable e)
-  opened (WrongObject i) h e = absurd (refused-not WrongTable e)
-  opened (Accepted d) h e =
-      ⊎-elim
-      (λ (long : (leb memorySize (length m) && fits) ≡ true).
-      ⊎-elim
-      (λ (low : inRange t d (workingMemory m) ≡ true).
-      ⊎-elim
-      (λ (off : eqb (runningAt (workingMemory m)) 0 ≡ true). absurd (refused-not Stopped (rw (long, low, off) at e)))
-      (λ (on : eqb (runningAt (workingMemory m)) 0 ≡ false). there (and-split (leb memorySize (length m)) fits long) low (rw (long, low, on) at e))
-      (true-or-false (eqb (runningAt (workingMemory m)) 0)))
-      (λ (high : inRange t d (workingMemory m) ≡ false). absurd (refused-not WrongMemory (rw (long, high) at e)))
-      (true-or-false (inRange t d (workingMemory m))))
-      (λ (short : (leb memorySize (length m) && fits) ≡ false). absurd (refused-not WrongMemory (rw short at e)))
-      (true-or-false (leb memorySize (length m) && fits))
+-- an admission is one of these
+module _ (t m : List ℕ) (fits : Bool) where
+  pub admission-by : (P : Admission → Type 0) → P (Refused WrongTable) → P (Refused WrongMemory) → P (Refused Stopped)
+      → ((c : Counts) → check t ≡ Accepted c → (leb memorySize (length m) && fits) ≡ true → inRange t c (workingMemory m) ≡ true
+      → eqb (runningAt (workingMemory m)) 0 ≡ false → P (Admitted c)) → P (admission t m fits)
+  unfolding admission
+  admission-by P table memory stopped goes = by (check t) refl
     where
-      there : (leb memorySize (length m) ≡ true) × (fits ≡ true) → inRange t d (workingMemory m) ≡ true → Admitted d ≡ Admitted c → Open t c m fits
-      there both low same =
+      by : (v : Verdict) → check t ≡ v → P (admissionOf v t m fits)
+      by WrongHeader h = table
+      by (WrongIpdu k) h = table
+      by (WrongObject i) h = table
+      by (Accepted c) h =
+          picked P (leb memorySize (length m) && fits) _ _
+          (λ long. picked P (inRange t c (workingMemory m)) _ _ (λ low. picked P (eqb (runningAt (workingMemory m)) 0) _ _ (λ off. stopped) (goes c h long low)) (λ high. memory))
+          (λ short. memory)
+
+-- the table was accepted, and the layer runs
+pub record Running (t : List ℕ) (c : Counts) (m : List ℕ) : Type 0 where
+  pub accepted : check t ≡ Accepted c
+  pub on : eqb (runningAt m) 0 ≡ false
+
+pub admitted-running : (t m : List ℕ) (fits : Bool) (c : Counts) → admission t m fits ≡ Admitted c → Running t c (workingMemory m)
+admitted-running t m fits c =
+    admission-by t m fits (λ a. a ≡ Admitted c → Running t c (workingMemory m)) (λ e. absurd (refused-not WrongTable e)) (λ e. absurd (refused-not WrongMemory e))
+    (λ e. absurd (refused-not Stopped e)) (λ d h long low on e. let same : d ≡ c = cc in record { accepted = h ∙ ap Accepted same; on = on })
+
+module _ (t m : List ℕ) (fits : Bool) (bt : Bytes t) (bm : Bytes m) (c : Counts) where
+  admission-open : admission t m fits ≡ Admitted c → Open t c m fits
+  admission-open =
+      admission-by t m fits (λ a. a ≡ Admitted c → Open t c m fits) (λ e. absurd (refused-not WrongTable e)) (λ e. absurd (refused-not WrongMemory e))
+      (λ e. absurd (refused-not Stopped e)) (λ d h long low on e. there d h (and-split (leb memorySize (length m)) fits long) low e)
+    where
+      there : (d : Counts) → check t ≡ Accepted d → (leb memorySize (length m) ≡ true) × (fits ≡ true) → inRange t d (workingMemory m) ≡ true → Admitted d ≡ Admitted c
+          → Open t c m fits
+      there d h both low same =
           let eq : d ≡ c = cc in
           let long = leb-true memorySize (length m) (both .0) in
           let exact : length (workingMemory m) ≡ memorySize = length-take-le memorySize m long in
@@ -60,13 +74,9 @@ module _ (t m : List ℕ) (fits : Bool) (bt : Bytes t) (bm : Bytes m) (c : Count
           record {
             long = long;
             exact = sym exact;
-            ready = in-range-ready t d (workingMemory m) (accepted-right t d h) bt (omega (arith, exact)) (part-bytes 0 memorySize m bm) low;
+            ready = in-range-ready t d (workingMemory m) (accepted-right t d h) bt (omega (arith, exact)) (unfold part in part-bytes 0 memorySize m bm) low;
             area = both .1;
           }
-
-  admission-open : admission t m fits ≡ Admitted c → Open t c m fits
-  unfolding admission
-  admission-open e = opened (check t) refl e
 
 pub admits : (t m : List ℕ) (fits : Bool) → Bytes t → Bytes m → (a : Admission) → a ≡ admission t m fits → Admits t m fits a
 admits t m fits bt bm a e = record { same = e; opens = λ c f. admission-open t m fits bt bm c (sym e ∙ f) }

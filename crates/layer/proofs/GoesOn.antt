@@ -2,31 +2,29 @@
 -- about one object ask for plain values, so that a search finds them. Assumes nothing.
 use mathlib.Core.Bool.{Bool, true, false, _&&_}
 use mathlib.Core.List.{List, [], _++_}
-use mathlib.Core.Logic.{⊎-elim}
 use mathlib.Core.Path.{_≡_, refl, sym, ap, _∙_}
-use Prim.Native.Nat.{ℕ, _≤_}
+use Prim.Native.Nat.{ℕ, _≤_, _<_}
 use native.Mathlib.Omega.{arith}
 use lib.Dec.{leb, eqb}
 use lib.ListN.{length, drop}
 use Rattle.memory.specs.Bytes.{Bytes}
-use Rattle.memory.proofs.Tests.{true-or-false, and-false}
+use Rattle.memory.proofs.Tests.{and-false, true-not-false}
 use Rattle.table.specs.declared.Counts.{Counts}
-use Rattle.table.specs.declared.Verdict.{Verdict}
-use Rattle.table.specs.declared.Verdict.the-variants.{Accepted, WrongHeader, WrongIpdu, WrongObject}
+use Rattle.table.specs.declared.Verdict.the-variants.{Accepted}
 use Rattle.table.specs.Records.{counts}
 use Rattle.table.specs.Check.{check}
 use Rattle.table.proofs.Accepted.{accepted-right}
 use Rattle.state.specs.Layout.{memorySize, runningAt}
-use Rattle.state.specs.Ranges.{inRange, Ready}
+use Rattle.state.specs.Ranges.{Ready}
 use Rattle.calls.specs.declared.Answer.{Answer}
 use Rattle.calls.specs.Answers.{Outcome, outcome, numberOf, valueOf}
 use Rattle.layer.specs.declared.Admission.{Admission}
 use Rattle.layer.specs.declared.Admission.the-variants.{Admitted, Refused}
 use Rattle.layer.specs.declared.Reply.{Reply}
-use Rattle.layer.specs.Admission.{Open, Admits, workingMemory, admissionOf, admission, onWorkingMemory}
+use Rattle.layer.specs.Admission.{Open, Admits, workingMemory, admission, onWorkingMemory}
 use Rattle.layer.specs.Step.{Call, longEnough, describe, step}
 use Rattle.layer.specs.Promises.{refusalOf, refusal, Goes, reply, replied, repliedOf}
-use Rattle.layer.proofs.Admitted.{admits, on-working-memory, reads-working-memory}
+use Rattle.layer.proofs.Admitted.{admission-by, admits, on-working-memory, reads-working-memory}
 
 -- ---- what is found where a call goes on
 
@@ -36,48 +34,24 @@ pub record Found (t m : List ℕ) : Type 0 where
   pub running : eqb (runningAt (workingMemory m)) 0 ≡ false
 
 found : (t m : List ℕ) → refusal t m true ≡ 0 → Found t m
-unfolding refusal admission
-found t m e = cases (check t) refl e
+unfolding refusal
+found t m e =
+    admission-by t m true (λ a. a ≡ admission t m true → refusalOf a ≡ 0 → Found t m) (λ s e. absurd (not-0 5 (omega arith) e)) (λ s e. absurd (not-0 6 (omega arith) e))
+    (λ s e. absurd (not-0 7 (omega arith) e))
+    (λ c h long low on s e.
+    let same = accepted-right t c h .counted in
+    record { table = h ∙ ap Accepted same; admitted = sym s ∙ ap Admitted same; running = on })
+    refl e
   where
-    five : _≡_ {A = ℕ} 5 0 → ⊥
-    five e = omega (arith, e)
-
-    six : _≡_ {A = ℕ} 6 0 → ⊥
-    six e = omega (arith, e)
-
-    seven : _≡_ {A = ℕ} 7 0 → ⊥
-    seven e = omega (arith, e)
-
-    cases : (v : Verdict) → check t ≡ v → refusalOf (admissionOf v t m true) ≡ 0 → Found t m
-    cases (Accepted c) h e =
-        ⊎-elim
-        (λ (long : (leb memorySize (length m) && true) ≡ true).
-        ⊎-elim
-        (λ (low : inRange t c (workingMemory m) ≡ true).
-        ⊎-elim
-        (λ (off : eqb (runningAt (workingMemory m)) 0 ≡ true). absurd (seven (rw (long, low, off) at e)))
-        (λ (on : eqb (runningAt (workingMemory m)) 0 ≡ false).
-        let same = accepted-right t c h .counted in
-        record { table = h ∙ ap Accepted same; admitted = rw (h, long, low, on) (ap Admitted same); running = on })
-        (true-or-false (eqb (runningAt (workingMemory m)) 0)))
-        (λ (high : inRange t c (workingMemory m) ≡ false). absurd (six (rw (long, high) at e)))
-        (true-or-false (inRange t c (workingMemory m))))
-        (λ (short : (leb memorySize (length m) && true) ≡ false). absurd (six (rw short at e)))
-        (true-or-false (leb memorySize (length m) && true))
-    cases WrongHeader h e = absurd (five e)
-    cases (WrongIpdu k) h e = absurd (five e)
-    cases (WrongObject i) h e = absurd (five e)
+    not-0 : (n : ℕ) → 0 < n → n ≡ 0 → ⊥
+    not-0 n some e = omega (arith, some, e)
 
 -- what is too short or out of range is refused, with 5 or 6
 pub refused-unfit : (t m : List ℕ) → refusal t m false ≡ 0 → ⊥
-unfolding refusal admission
-refused-unfit t m e = cases (check t) e
-  where
-    cases : (v : Verdict) → refusalOf (admissionOf v t m false) ≡ 0 → ⊥
-    cases (Accepted c) e = let six : _≡_ {A = ℕ} 6 0 = rw (and-false (leb memorySize (length m))) at e in omega (arith, six)
-    cases WrongHeader e = omega (arith, e)
-    cases (WrongIpdu k) e = omega (arith, e)
-    cases (WrongObject i) e = omega (arith, e)
+unfolding refusal
+refused-unfit t m =
+    admission-by t m false (λ a. refusalOf a ≡ 0 → ⊥) (λ e. omega (arith, e)) (λ e. omega (arith, e)) (λ e. omega (arith, e))
+    (λ c h long low on e. true-not-false long (and-false (leb memorySize (length m))))
 
 module _ {t m : List ℕ} (goes : Goes t m) where
   pub found-here : Found t m

@@ -4,7 +4,7 @@ use mathlib.Core.Logic.{_⊎_, inl, inr, ⊎-elim}
 use mathlib.Core.Path.{_≡_, refl, sym, ap, _∙_}
 use mathlib.Core.List.{List, [], _∷_, _++_, append-assoc, append-nil}
 use Prim.Native.Nat.{ℕ, zero, suc, _+_, _-_, _*_, _/_, _%_, _^_, _≤_, _<_, min}
-use native.Mathlib.Nat.{zero-add, zero-mod, mod-lt, one-le-pow, zero-lt-suc, pow-succ', mul-comm, not-suc-le-zero, le-of-suc-le-suc}
+use native.Mathlib.Nat.{zero-add, zero-mod, mod-lt, one-le-pow, zero-lt-suc, pow-succ', mul-comm, le-of-suc-le-suc}
 use native.Mathlib.Numerals.{add-one}
 use native.Mathlib.Omega.{arith}
 use lib.ListN.{replicate, length, getD, set, take, drop, length-take, length-drop, length-append, length-replicate, getD-replicate}
@@ -124,12 +124,6 @@ replaced-whole f m e =
     let past : length m ≤ 0 + length f = omega arith in
     let all : drop (0 + length f) m ≡ [] = drop-of-length-le m past in
     rw all (append-nil f)
-
--- the front of a list up to what was just stored
-pub take-set : (l : List ℕ) (i x : ℕ) → i < length l → take (suc i) (set l i x) ≡ take i l ++ (x ∷ [])
-take-set [] i x low = absurd (not-suc-le-zero low)
-take-set (y ∷ l) zero x low = refl
-take-set (y ∷ l) (suc i) x low = ap (λ (z : List ℕ). y ∷ z) (take-set l i x (le-of-suc-le-suc low))
 
 -- bytes stored one after the other: one more, and all
 module _ (m f : List ℕ) (at i : ℕ) {n : List ℕ} (stored : n ≡ sets m at (take i f)) where

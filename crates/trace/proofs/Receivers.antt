@@ -29,6 +29,7 @@ use Rattle.message.proofs.Queues.{waiting-length, waiting-oldest, waiting-arriv
 use Rattle.calls.specs.declared.Answer.the-variants.{Done}
 use Rattle.calls.specs.Answers.{Outcome, outcome, numberOf, valueOf}
 use Rattle.calls.specs.Calls.{isObject, limited, receiveIn}
+use Rattle.calls.proofs.Received.{taken, limited-gives}
 use Rattle.calls.proofs.SendParts.{after}
 use Rattle.layer.specs.Admission.{workingMemory, onWorkingMemory}
 use Rattle.layer.specs.Step.{Call, start, receive, longEnough, describe, step}
@@ -100,22 +101,6 @@ received : (t : List ℕ) (c : Counts) (m : List ℕ) (j : ℕ) → isObject t c
     → receiveIn t c j m .answer ≡ Done (objectState m j .value)
 unfolding receiveIn
 received t c m j is flat = rw (is, flat)
-
--- of a queued object where a value waits
-taken : (t : List ℕ) (c : Counts) (m : List ℕ) (j : ℕ) → isObject t c receiving j ≡ true → (objectRecord t (c .ipdus) j .depth ≡ 0 → ⊥)
-    → (objectState m j .count ≡ 0 → ⊥)
-    → receiveIn t c j m
-    ≡ outcome (limited (objectState m j) (oldest (objectRecord t (c .ipdus) j .depth) j m)) (dequeue (objectRecord t (c .ipdus) j .depth) j m) []
-unfolding receiveIn
-taken t c m j is deep some = rw (is, ne-eqb (objectRecord t (c .ipdus) j .depth) 0 deep, ne-eqb (objectState m j .count) 0 some)
-
--- with or without an overflow the value is given
-limited-gives : (s : ObjectState) (v : ℕ) → (valueOf (limited s v) ≡ v) × ((numberOf (limited s v) ≡ 0) ⊎ (numberOf (limited s v) ≡ 3))
-limited-gives s v =
-    ⊎-elim
-    (λ (e : eqb (s .overflow) 0 ≡ true). rw e (refl, inl refl))
-    (λ (e : eqb (s .overflow) 0 ≡ false). rw e (refl, inr refl))
-    (true-or-false (eqb (s .overflow) 0))
 
 -- there is a receive object of this number
 receives : (t : List ℕ) (c : Counts) (j : ℕ) → j < c .objects → objectRecord t (c .ipdus) j .kind ≡ receiving → isObject t c receiving j ≡ true
