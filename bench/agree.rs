@@ -1,23 +1,27 @@
-// The two layers on random calls, over random tables and memories, on copies of the same bytes: answer, memory, request
-// area and status list have to be the same. Tables and calls are those of tests/layer; its reference only helps to
-// choose calls that meet something. Every byte of every table, and of the rows in memory, is also changed alone.
-use crate::act::{Act, LAYER_KINDS};
+// The two layers on random calls, over random tables, memories and sheets, on copies of the same bytes: answer, memory, request
+// area, status list, sheets and text have to be the same. Tables and calls are those of tests/layer; its reference only helps to
+// choose calls that meet something. Every byte of every table, of the rows in memory and of a sheet is also changed alone.
+use crate::act::{Act, Lists, KINDS};
 use crate::call::Call;
 use crate::make::{memory, often_filtered, right, scramble, wrong};
-use crate::make_group::{act, filtering};
+use crate::make_group::filtering;
+use crate::make_sheet::{self, act};
 use crate::memories::changed;
-use crate::peer::{check, ipdu_length, make, PEER, PROVED};
+use crate::peer::{self, check, ipdu_length, make, Calls, PEER, PROVED};
 use crate::ranges::in_range;
 use crate::reference::Layer;
+use crate::sheet::{rows, OnSheet, What, SHEET, TEXT};
 use crate::stored;
 use crate::table::{right_table, Run};
 
 const MEMORY: usize = 8192;
 const AREA: usize = 256;
 const OBJECT_ROWS: usize = 784;
+/// One more than the greatest number that is answered.
+const NUMBERS: usize = 11;
 
 /// The calls by kind, and the numbers that each has to answer somewhere.
-const WANTED: [(&str, &[usize]); LAYER_KINDS] = [
+const WANTED: [(&str, &[usize]); KINDS] = [
     ("start", &[0, 5, 6]),
     ("stop", &[0, 5, 6, 7]),
     ("send", &[0, 1, 5, 6, 7]),
@@ -33,10 +37,12 @@ const WANTED: [(&str, &[usize]); LAYER_KINDS] = [
     ("tick", &[0, 5, 6, 7]),
     ("send_group", &[0, 2, 5, 6, 7]),
     ("send_records", &[0, 2, 5, 6, 7]),
+    ("sheet_begin", &[0, 1, 5, 6, 7, 10]),
+    ("sheet_drain", &[0, 1, 5, 6, 7, 10]),
 ];
 
 /// What else has to be met.
-const EVENTS: [&str; 12] = [
+const EVENTS: [&str; 21] = [
     "a request by send",
     "a request by tick",
     "a request by a group",
@@ -44,6 +50,15 @@ const EVENTS: [&str; 12] = [
     "a pair with status 1",
     "6 for a stored number",
     "6 for a short area",
+    "6 for a sheet",
+    "6 for a text",
+    "a drain of no object",
+    "a drain of sixteen objects",
+    "sixteen values drained of one object",
+    "an overflow drained",
+    "an error seen",
+    "a count that stops",
+    "a line as long as may be",
     "an accepted table",
     "a wrong header",
     "a wrong I-PDU",
@@ -59,17 +74,30 @@ struct Test {
     faults: u64,
     tables: u64,
     checks: u64,
-    answers: [[u64; 9]; LAYER_KINDS],
+    answers: [[u64; NUMBERS]; KINDS],
     events: [u64; EVENTS.len()],
+    /// What the last list of calls has left.
+    sheets: Vec<Vec<u8>>,
 }
 
-/// What is lent to a call: of memory and area only so many bytes.
-struct Lent<'a> {
-    table: &'a [u8],
-    memory: &'a mut Vec<u8>,
-    area: &'a mut Vec<u8>,
-    memory_length: usize,
-    area_length: usize,
+/// What a list of calls works on.
+#[derive(Clone)]
+struct State {
+    memory: Vec<u8>,
+    area: Vec<u8>,
+    sheets: Vec<Vec<u8>>,
+}
+
+/// The call by one of the layers, with so many bytes of memory and area.
+fn make_by(by: &Calls, act: &Act, table: &[u8], state: &mut State, lists: &mut Lists, (m, a): (usize, usize)) -> (u32, u32) {
+    let (memory, area) = (&mut state.memory[..m], &mut state.area[..a]);
+    let Lists { statuses, sheets, text } = lists;
+    let n = if let Act::Group(group) = act { group.lent } else { 0 };
+    let (sheet, lent) = match act {
+        Act::Sheet(on) => (on.of(sheets), on.text_lent()),
+        _ => (&mut [][..], 0),
+    };
+    make(by, act, table, peer::Lent { memory, area, statuses: &mut statuses[..n], sheet, text: &mut text[..lent] })
 }
 
 impl Test {
@@ -82,25 +110,54 @@ impl Test {
 
     /// One call by both layers. The bytes are left as the proved one leaves them; so much of them as is not lent is
     /// compared too.
-    fn both(&mut self, act: &Act, lent: Lent) -> (u32, u32) {
-        let Lent { table, memory, area, memory_length: m, area_length: a } = lent;
-        let (mut peer_memory, mut peer_area) = (memory.clone(), area.clone());
-        let (mut statuses, mut peer_statuses) = (act.statuses(), act.statuses());
-        let n = if let Act::Group(group) = act { group.lent } else { 0 };
-        let proved = make(&PROVED, act, table, &mut memory[..m], &mut area[..a], &mut statuses[..n]);
-        let peer = make(&PEER, act, table, &mut peer_memory[..m], &mut peer_area[..a], &mut peer_statuses[..n]);
+    fn both(&mut self, act: &Act, table: &[u8], state: &mut State, lengths: (usize, usize)) {
+        let (mut peer_state, mut lists) = (state.clone(), act.lists(&state.sheets));
+        let mut peer_lists = lists.clone();
+        let proved = make_by(&PROVED, act, table, state, &mut lists, lengths);
+        let peer = make_by(&PEER, act, table, &mut peer_state, &mut peer_lists, lengths);
         if proved != peer {
             self.differ(&format!("{act:?}: proved {proved:?}, peer {peer:?}"), table);
         }
-        let lists = ("status list", &statuses, &peer_statuses);
-        for (name, proved, peer) in [("memory", &*memory, &peer_memory), ("area", &*area, &peer_area), lists] {
-            if let Some(at) = (0..proved.len()).find(|&at| proved[at] != peer[at]) {
-                let (proved, peer) = (proved[at], peer[at]);
-                self.differ(&format!("{act:?}: byte {at} of the {name}: proved {proved}, peer {peer}"), table);
-            }
+        let of = |name: &str, proved: &[u8], peer: &[u8]| {
+            let at = (0..proved.len()).find(|&at| proved[at] != peer[at]);
+            at.map(|at| (name.to_string(), at, proved[at], peer[at]))
+        };
+        let in_memory = of("memory", &state.memory, &peer_state.memory);
+        let found = in_memory.or_else(|| of("area", &state.area, &peer_state.area)).or_else(|| lists.difference(&peer_lists));
+        if let Some((name, at, proved, peer)) = found {
+            self.differ(&format!("{act:?}: byte {at} of the {name}: proved {proved}, peer {peer}"), table);
         }
-        self.note(act, proved, &statuses[..n], (m, a));
-        proved
+        let n = if let Act::Group(group) = act { group.lent } else { 0 };
+        self.note(act, proved, &lists.statuses[..n], lengths);
+        if let Act::Sheet(on) = act {
+            self.note_sheet(on, proved, (on.of(&mut state.sheets), on.of(&mut lists.sheets)), lengths.0);
+        }
+        state.sheets = lists.sheets;
+    }
+
+    fn note_sheet(&mut self, on: &OnSheet, (number, _): (u32, u32), (was, is): (&[u8], &[u8]), m: usize) {
+        let drains = matches!(on.what, What::Drain(..));
+        let sheet_right = if drains { rows(was).is_some() } else { was.len() >= SHEET };
+        let refused = number == 6 && m >= MEMORY;
+        let (before, after) = match (rows(was), rows(is)) {
+            (Some(before), Some(after)) if drains && number == 0 => (before, after),
+            _ => (Vec::new(), Vec::new()),
+        };
+        let pairs: Vec<_> = before.iter().zip(&after).collect();
+        let met = [
+            refused && !sheet_right,
+            refused && drains && sheet_right && on.text_lent() < TEXT,
+            drains && number == 0 && after.is_empty(),
+            after.len() == 16,
+            pairs.iter().any(|(before, after)| after.drained - before.drained == 16),
+            pairs.iter().any(|(before, after)| after.overflows > before.overflows),
+            pairs.iter().any(|(before, after)| after.errors > before.errors),
+            pairs.iter().any(|(before, after)| after.drained == u32::MAX && after.last != before.last),
+            after.iter().any(|row| row.line().len() == 81),
+        ];
+        for (count, met) in self.events[7..].iter_mut().zip(met) {
+            *count += met as u64;
+        }
     }
 
     fn note(&mut self, act: &Act, (number, word): (u32, u32), statuses: &[u8], (m, a): (usize, usize)) {
@@ -114,8 +171,8 @@ impl Test {
             accepted && word != 0 && is_group,
             requests && word.count_ones() > 1,
             accepted && is_group && statuses.contains(&1),
-            number == 6 && m >= MEMORY && a >= AREA,
-            number == 6 && m >= MEMORY && a < AREA,
+            number == 6 && m >= MEMORY && a >= AREA && !matches!(act, Act::Sheet(_)),
+            number == 6 && m >= MEMORY && a < AREA && !matches!(act, Act::Sheet(_)),
         ];
         for (count, met) in self.events.iter_mut().zip(met) {
             *count += met as u64;
@@ -134,10 +191,10 @@ impl Test {
         }
         self.checks += 1;
         let event = match proved {
-            (0, _) => 7,
-            (_, 65535) => 8,
-            (_, 0..=255) => 9,
-            _ => 10,
+            (0, _) => 16,
+            (_, 65535) => 17,
+            (_, 0..=255) => 18,
+            _ => 19,
         };
         self.events[event] += 1;
     }
@@ -147,7 +204,7 @@ impl Test {
         let (ipdus, objects) = (self.run.pick(&[1, 8, 32]), self.run.pick(&[40, 100, 128]));
         let table = right_table(&mut self.run, ipdus, objects);
         let depths: u32 = table[16 + 16 * ipdus..].chunks(32).map(|record| record[7] as u32).sum();
-        self.events[11] += (depths == 512) as u64;
+        self.events[20] += (depths == 512) as u64;
         table
     }
 
@@ -175,67 +232,108 @@ impl Test {
     }
 
     /// Every byte of the rows in memory changed alone, each time with one call.
-    fn memory_faults(&mut self, table: &[u8], layer: &Layer, started: &[u8]) {
+    fn memory_faults(&mut self, table: &[u8], layer: &Layer, started: &State) {
         let ipdu_rows = 0..16 + 16 * layer.ipdus.len();
         let object_rows = OBJECT_ROWS..OBJECT_ROWS + 16 * layer.objects.len();
-        let mut area = vec![0; AREA];
         for at in ipdu_rows.chain(object_rows) {
-            let mut memory = started.to_vec();
-            memory[at] = self.other(memory[at]);
+            let mut state = started.clone();
+            state.memory[at] = self.other(state.memory[at]);
             let made = act(&mut self.run, layer, 0);
-            let (memory_length, area_length) = (memory.len(), area.len());
-            self.both(&made, Lent { table, memory: &mut memory, area: &mut area, memory_length, area_length });
-            self.calls -= 1;
-            self.faults += 1;
+            self.fault(&made, table, &mut state);
         }
     }
 
-    /// A call with now and then too little memory or too small an area, over this memory and area.
-    fn step(&mut self, act: &Act, table: &[u8], memory: &mut Vec<u8>, area: &mut Vec<u8>) -> (u32, u32) {
+    fn fault(&mut self, act: &Act, table: &[u8], state: &mut State) {
+        let lengths = (state.memory.len(), state.area.len());
+        self.both(act, table, state, lengths);
+        self.calls -= 1;
+        self.faults += 1;
+    }
+
+    /// Every byte of a sheet changed alone, each time with a drain; then its numbers the least and the greatest of each length.
+    fn sheet_faults(&mut self, table: &[u8], layer: &Layer, started: &State) {
+        let mut begun = started.clone();
+        let begin = make_sheet::short_begin(&mut self.run, layer, 0);
+        let bytes = if let What::Begin(objects) = &begin.what { 8 + 32 * objects.len() } else { 0 };
+        self.fault(&Act::Sheet(begin), table, &mut begun);
+        let drain = Act::Sheet(OnSheet { sheet: 0, lent: SHEET, what: What::Drain(0xA5, TEXT, TEXT) });
+        for at in 0..bytes {
+            let mut state = begun.clone();
+            state.sheets[0][at] = self.other(state.sheets[0][at]);
+            self.fault(&drain, table, &mut state);
+        }
+        for number in (0..10).flat_map(|n| [10u32.pow(n) - 1, 10u32.pow(n)]) {
+            let mut state = begun.clone();
+            for row in state.sheets[0][8..bytes.max(8)].chunks_mut(32) {
+                row[4..].copy_from_slice(&[number.to_le_bytes(); 7].concat());
+            }
+            self.fault(&drain, table, &mut state);
+        }
+    }
+
+    /// A call with now and then too little memory or too small an area, or over a changed sheet.
+    fn step(&mut self, act: &Act, table: &[u8], layer: &Layer, state: &mut State) {
         let run = &mut self.run;
         let (any, any_area) = (run.below(MEMORY), run.below(AREA));
-        let (mut memory_length, mut area_length) = (memory.len(), AREA + run.below(area.len() - AREA + 1));
+        let (mut memory_length, mut area_length) = (state.memory.len(), AREA + run.below(state.area.len() - AREA + 1));
         if run.below(60) == 0 {
             memory_length = run.pick(&[0, 1, 16, MEMORY - 1, any]);
         }
         if run.below(60) == 0 {
             area_length = run.pick(&[0, 1, 8, AREA - 1, any_area]);
         }
-        self.both(act, Lent { table, memory, area, memory_length, area_length })
+        let mut kept = None;
+        if let (Act::Sheet(on), 0) = (act, run.below(4)) {
+            let (n, sheets) = (on.number(state.sheets.len()), state.sheets.clone());
+            if !make_sheet::damage(run, layer, &mut state.sheets[n]) {
+                kept = Some(sheets);
+            }
+        }
+        self.both(act, table, state, (memory_length, area_length));
+        if let (Some(sheets), Act::Sheet(OnSheet { what: What::Drain(..), .. })) = (kept, act) {
+            state.sheets = sheets;
+        }
     }
 
     /// A list of calls over one table, with calls between over another table or another memory.
     fn list(&mut self, table: &[u8]) {
         let mut layer = Layer::new(table);
-        let (mut memory, mut area) = (memory(&mut self.run), vec![0; AREA + self.run.below(40)]);
+        let (memory, mut area) = (memory(&mut self.run), vec![0; AREA + self.run.below(40)]);
         scramble(&mut self.run, &mut area);
+        let sheets = make_sheet::sheets(&mut self.run, &self.sheets);
+        let mut state = State { memory, area, sheets };
         for _ in 0..self.run.below(3) {
             let made = act(&mut self.run, &layer, 0);
-            self.step(&made, table, &mut memory.clone(), &mut area);
+            self.step(&made, table, &layer, &mut state.clone());
         }
-        let (memory_length, area_length) = (memory.len(), area.len());
-        let lent = Lent { table, memory: &mut memory, area: &mut area, memory_length, area_length };
-        self.both(&Act::Call(Call::Start), lent);
+        let lengths = (state.memory.len(), state.area.len());
+        self.both(&Act::Call(Call::Start), table, &mut state, lengths);
+        for sheet in 0..state.sheets.len() {
+            let begin = Act::Sheet(make_sheet::begin(&mut self.run, &layer, sheet));
+            self.step(&begin, table, &layer, &mut state);
+        }
         let (style, often) = (self.run.below(4), often_filtered(&mut self.run, &layer));
         let often = often.filter(|_| self.run.below(4) == 0);
         for _ in 0..100 + self.run.below(300) {
-            stored::read(&mut layer, &memory);
+            stored::read(&mut layer, &state.memory);
             let made = match often {
                 Some(object) if self.run.below(2) == 0 => filtering(&mut self.run, &layer, object),
                 _ => act(&mut self.run, &layer, style),
             };
             if self.run.below(20) == 0 {
-                self.over_wrong_table(&made, table, &memory, &area);
+                self.over_wrong_table(&made, table, &layer, &state);
             }
             if self.run.below(5) == 0 {
-                memory = self.over_changed(&made, table, &layer, memory, &mut area);
+                self.over_changed(&made, table, &layer, &mut state);
             }
-            self.step(&made, table, &mut memory, &mut area);
+            self.step(&made, table, &layer, &mut state);
         }
-        self.memory_faults(table, &layer, &memory);
+        self.memory_faults(table, &layer, &state);
+        self.sheet_faults(table, &layer, &state);
+        self.sheets = state.sheets;
     }
 
-    fn over_wrong_table(&mut self, act: &Act, table: &[u8], memory: &[u8], area: &[u8]) {
+    fn over_wrong_table(&mut self, act: &Act, table: &[u8], layer: &Layer, state: &State) {
         let mut t = wrong(&mut self.run, table);
         if self.run.below(2) == 0 {
             let at = self.run.below(table.len());
@@ -243,17 +341,17 @@ impl Test {
             t[at] = self.other(t[at]);
         }
         self.check(&t);
-        self.step(act, &t, &mut memory.to_vec(), &mut area.to_vec());
+        self.step(act, &t, layer, &mut state.clone());
     }
 
     /// A call over a changed copy of the memory. The list goes on with the copy now and then, if that is in its ranges.
-    fn over_changed(&mut self, act: &Act, table: &[u8], layer: &Layer, memory: Vec<u8>, area: &mut Vec<u8>) -> Vec<u8> {
-        let mut copy = changed(&mut self.run, layer, &memory);
-        self.step(act, table, &mut copy, area);
-        if self.run.below(4) == 0 && in_range(table, &copy) {
-            copy
+    fn over_changed(&mut self, act: &Act, table: &[u8], layer: &Layer, state: &mut State) {
+        let mut copy = State { memory: changed(&mut self.run, layer, &state.memory), ..state.clone() };
+        self.step(act, table, layer, &mut copy);
+        if self.run.below(4) == 0 && in_range(table, &copy.memory) {
+            *state = copy;
         } else {
-            memory
+            state.area = copy.area;
         }
     }
 
@@ -269,15 +367,15 @@ impl Test {
 
 pub fn agree(seed: u64, count: u64) {
     let run = Run { random: seed.wrapping_mul(0x9E37_79B9_7F4A_7C15) | 1, counts: [0; 4] };
-    let (answers, events) = ([[0; 9]; LAYER_KINDS], [0; EVENTS.len()]);
-    let mut test = Test { seed, run, calls: 0, faults: 0, tables: 0, checks: 0, answers, events };
+    let (answers, events) = ([[0; NUMBERS]; KINDS], [0; EVENTS.len()]);
+    let mut test = Test { seed, run, calls: 0, faults: 0, tables: 0, checks: 0, answers, events, sheets: Vec::new() };
     while test.calls < count {
         let table = if test.tables % 4 == 0 { test.deep() } else { right(&mut test.run) };
         test.tables += 1;
         test.faults(&table);
         test.list(&table);
     }
-    print!("beside: {} calls agree, {} with one byte of memory changed, ", test.calls, test.faults);
+    print!("beside: {} calls agree, {} with one byte of memory or sheet changed, ", test.calls, test.faults);
     println!("and {} checks, over {} tables", test.checks, test.tables);
     for ((name, _), met) in WANTED.iter().zip(&test.answers) {
         let met = met.iter().enumerate().filter(|(_, met)| **met > 0);

@@ -1,8 +1,8 @@
 // Each call of bench/layer.rs by the proved layer and by the peer of bench/peer/peer.h, a fast layer in C with the same
 // checks. `agree SEED COUNT` compares them on random calls (bench/agree.rs). `times TABLE` prints for each row the
 // nanoseconds of three calls: one that does nothing, the proved one, the peer's. `counts TABLE` prints the row and
-// makes each of the three once, for callgrind. Where the two differ in answer, memory, request area or statuses the
-// program ends with status 1.
+// makes each of the three once, for callgrind. Where the two differ in answer, memory, request area, statuses, sheet or
+// text the program ends with status 1.
 #[path = "../tests/layer/act.rs"]
 #[allow(dead_code)]
 mod act;
@@ -25,6 +25,9 @@ mod make;
 #[path = "../tests/layer/make_group.rs"]
 #[allow(dead_code)]
 mod make_group;
+#[path = "../tests/layer/make_sheet.rs"]
+#[allow(dead_code)]
+mod make_sheet;
 #[path = "../tests/layer/memories.rs"]
 #[allow(dead_code)]
 mod memories;
@@ -51,27 +54,19 @@ mod table;
 use act::Act;
 use call::Call;
 use group::{Form, Pair};
-use peer::{Calls, EMPTY, PEER, PROVED};
+use layer::{before_all, Lent as State};
+use peer::{Calls, Lent, EMPTY, PEER, PROVED};
+use sheet::{OnSheet, What};
 use std::hint::black_box;
 use std::time::Instant;
 
 const MEMORY: usize = 8192;
-const AREA: usize = 256;
-const MOST_PAIRS: usize = 16;
 /// The first slot, and the marks of the first object, in working memory.
 const SLOTS: usize = 528;
 const MARKS: usize = 784 + 9;
 /// The states that are prepared before the clock runs, and how often the clock runs.
 const BATCH: usize = 16;
 const RUNS: usize = 500;
-
-/// What is lent to a call beside the table.
-#[derive(Clone, PartialEq)]
-pub struct State {
-    memory: [u8; MEMORY],
-    area: [u8; AREA],
-    statuses: [u8; MOST_PAIRS],
-}
 
 /// What a row measures: a call with the lengths that it is lent, or the check of the table.
 enum Measured {
@@ -85,8 +80,8 @@ fn run(by: &Calls, measured: &Measured, t: &[u8], state: &mut State) -> Answer {
     match measured {
         Measured::Check => peer::check(by, t),
         Measured::Call { act, memory, statuses } => {
-            let State { memory: m, area, statuses: s } = state;
-            peer::make(by, act, t, &mut m[..*memory], area, &mut s[..*statuses])
+            let State { memory: m, area, statuses: s, sheet, text } = state;
+            peer::make(by, act, t, Lent { memory: &mut m[..*memory], area, statuses: &mut s[..*statuses], sheet, text })
         }
     }
 }
@@ -101,6 +96,10 @@ pub fn collected(call: &dyn Fn(&mut State) -> Answer, state: &mut State) -> Answ
 fn fail(name: &str, what: &str) -> ! {
     println!("beside: {name}: {what}");
     std::process::exit(1)
+}
+
+fn on_sheet(what: What) -> Act {
+    Act::Sheet(OnSheet { sheet: 0, lent: layer::SHEET, what })
 }
 
 /// A call of bench/layer.rs; the pairs of a group are made here, before it is measured.
@@ -134,15 +133,18 @@ fn measured(call: layer::Call) -> Measured {
         Indication(ipdu, good) => {
             Act::Call(Call::Indication { ipdu, good: good != 0, bytes: layer::FRAME.to_vec() })
         }
+        Rising(ipdu, n) => Act::Call(Call::Indication { ipdu, good: true, bytes: layer::RISING[n].to_vec() }),
         Confirm(ipdu, good) => Act::Call(Call::Confirm { ipdu, good: good != 0 }),
         Tick => Act::Call(Call::Tick),
+        Begin(from, n) => on_sheet(What::Begin(layer::FOLLOWED[from..from + n].to_vec())),
+        Drain => on_sheet(What::Drain(0, layer::TEXT, layer::TEXT)),
     };
     Measured::Call { act, memory, statuses }
 }
 
 /// The state after the calls before a measured one, the same by both layers.
 fn prepared(name: &str, t: &[u8], before: &[layer::Call]) -> State {
-    let mut states = [0, 1].map(|_| State { memory: [0xA5; MEMORY], area: [0; AREA], statuses: [0xFF; MOST_PAIRS] });
+    let mut states = [before_all(), before_all()];
     for &call in before {
         let call = measured(call);
         let answers = [run(&PROVED, &call, t, &mut states[0]), run(&PEER, &call, t, &mut states[1])];
@@ -206,7 +208,7 @@ fn row(name: &str, t: &[u8], measured: &Measured, state: &State, answer: Answer,
     }
 }
 
-/// The call took the path that its row is named for: the marks and the slot of an I-PDU tell.
+/// The call took the path that its row is named for: the marks, the slot of an I-PDU and the sheet tell.
 fn took_its_path(r: &layer::Row, t: &[u8], measured: &Measured, state: &State) {
     let mut after = state.clone();
     run(&PROVED, measured, t, &mut after);
@@ -214,6 +216,11 @@ fn took_its_path(r: &layer::Row, t: &[u8], measured: &Measured, state: &State) {
     let marked = r.marks.0.clone().all(|i| after.memory[MARKS + 16 * i as usize] as u32 == r.marks.1);
     if !marked || (after.memory[slot.clone()] != state.memory[slot]) != r.slot.1 {
         fail(r.name, "other marks, or another slot");
+    }
+    let (followed, drained, errors) = r.sheet;
+    let counted = |row: &[u8]| row[4..8] == drained.to_le_bytes() && row[28..] == errors.to_le_bytes();
+    if after.sheet[4] as usize != followed || !after.sheet[8..8 + 32 * followed].chunks(32).all(counted) {
+        fail(r.name, "a sheet for more objects or fewer, or other counts");
     }
 }
 

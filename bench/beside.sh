@@ -1,7 +1,7 @@
 #!/usr/bin/env bash
 # Each call of the layer beside a layer in C that was written by hand for speed (bench/peer/peer.h), in one run. Both check
 # the whole table and every stored number in every call, and leave the same bytes: first 200,000 random calls have to
-# agree, in answer, memory, request area and statuses. Then, over document 01's case 12 and the large table of
+# agree, in answer, memory, request area, statuses, sheets and text. Then, over document 01's case 12 and the large table of
 # bench/layer.rs, a line for each call: instructions by callgrind, and nanoseconds (the best of 500 batches of 16 calls,
 # the two by turns, each on a fresh copy of the state). What making an empty call takes is subtracted. A ratio is
 # proved / peer; none is given where a side has less than 10 ns. `check` is the check of the table alone. Needs
@@ -11,10 +11,10 @@ cd "$(dirname "$0")/.."
 [ -f target/staticlib/libexports.a ] || { echo "beside: run 'rt staticlib exports' first" >&2; exit 1; }
 out=$(mktemp -d)
 trap 'rm -rf "$out"' EXIT
-for part in check objects ipdus; do
+for part in check objects ipdus sheet; do
     gcc -std=c99 -O2 -Wall -Wextra -Wpedantic -Wconversion -Werror -c -o "$out/$part.o" bench/peer/$part.c
 done
-ar rcs "$out/libpeer.a" "$out/check.o" "$out/objects.o" "$out/ipdus.o"
+ar rcs "$out/libpeer.a" "$out/check.o" "$out/objects.o" "$out/ipdus.o" "$out/sheet.o"
 rustc -C opt-level=3 -C panic=abort --edition 2021 -o "$out/beside" bench/beside.rs \
     -L target/staticlib -l static=exports -L "$out" -l static=peer
 

@@ -40,6 +40,12 @@ extern "C" {
         t: *const u8, tl: usize, m: *mut u8, ml: usize, area: *mut u8, al: usize, pairs: *const [u32; 2], pl: usize,
         statuses: *mut u8, sl: usize,
     ) -> Answer;
+    pub fn birnenschloss_sheet_begin(
+        t: *const u8, tl: usize, m: *const u8, ml: usize, sheet: *mut u8, sl: usize, objects: *const u32, ol: usize,
+    ) -> Answer;
+    pub fn birnenschloss_sheet_drain(
+        t: *const u8, tl: usize, m: *mut u8, ml: usize, sheet: *mut u8, sl: usize, text: *mut u8, xl: usize,
+    ) -> Answer;
 }
 
 /// The pairs of a group: in `case12` object 0 again and again, in `large` objects 0, 1, 2 and so on; each value differs.
@@ -56,6 +62,14 @@ pub fn pair_bytes(step: u32) -> Vec<u8> {
 
 pub const FRAME: [u8; 8] = [0x5A, 0xC3, 0x7E, 0x91, 0x3C, 0xE7, 0xA5, 0x69];
 
+/// Frames of one byte each: any twelve bits are greater from frame to frame, so that every filter lets them pass.
+pub static RISING: [[u8; 8]; 3] = [[0x11; 8], [0x33; 8], [0x77; 8]];
+
+/// What sheets follow in `large`: the eight queues of I-PDU 17, one each of I-PDUs 18 to 25, and one of 32 bits.
+pub static FOLLOWED: [u32; 17] = [72, 73, 74, 75, 76, 77, 78, 79, 81, 84, 87, 90, 93, 96, 99, 102, 125];
+pub const SHEET: usize = 520;
+pub const TEXT: usize = 1536;
+
 #[derive(Clone, Copy)]
 pub enum Call {
     Start,
@@ -70,15 +84,36 @@ pub enum Call {
     StartPeriodic,
     StopPeriodic,
     Indication(u32, u32),
+    /// A good indication, with one of the rising frames.
+    Rising(u32, usize),
     Confirm(u32, u32),
     Tick,
     Group(usize, u32),
     Records(usize, u32),
+    /// Of a sheet: from which of the followed objects on, and how many.
+    Begin(usize, usize),
+    Drain,
 }
 use Call::*;
 
-pub fn make(call: Call, t: &[u8], m: &mut [u8], area: &mut [u8]) -> Answer {
+/// What is lent beside the table.
+#[derive(Clone, PartialEq)]
+pub struct Lent {
+    pub memory: [u8; 8192],
+    pub area: [u8; 256],
+    pub statuses: [u8; 16],
+    pub sheet: [u8; SHEET],
+    pub text: [u8; TEXT],
+}
+
+pub fn before_all() -> Lent {
+    Lent { memory: [0xA5; 8192], area: [0; 256], statuses: [0xFF; 16], sheet: [0; SHEET], text: [0xA5; TEXT] }
+}
+
+pub fn make(call: Call, t: &[u8], lent: &mut Lent) -> Answer {
+    let Lent { memory: m, area, statuses, sheet, text } = lent;
     let (tp, tl, mp, ml) = (t.as_ptr(), t.len(), m.as_mut_ptr(), m.len());
+    let (sheet, text) = (sheet.as_mut_ptr(), text.as_mut_ptr());
     unsafe {
         match call {
             Start => birnenschloss_start(tp, tl, mp, ml),
@@ -93,18 +128,21 @@ pub fn make(call: Call, t: &[u8], m: &mut [u8], area: &mut [u8]) -> Answer {
             StartPeriodic => birnenschloss_start_periodic(tp, tl, mp, ml),
             StopPeriodic => birnenschloss_stop_periodic(tp, tl, mp, ml),
             Indication(k, good) => birnenschloss_indication(tp, tl, mp, ml, k, good, FRAME.as_ptr(), FRAME.len()),
+            Rising(k, n) => birnenschloss_indication(tp, tl, mp, ml, k, 1, RISING[n].as_ptr(), RISING[n].len()),
             Confirm(k, good) => birnenschloss_confirm(tp, tl, mp, ml, k, good),
             Tick => birnenschloss_tick(tp, tl, mp, ml, area.as_mut_ptr(), area.len()),
             Group(n, step) => {
-                let (pairs, mut statuses) = (pair_bytes(step), [0xFF; 16]);
+                let pairs = pair_bytes(step);
                 let (pp, sp) = (pairs.as_ptr(), statuses.as_mut_ptr());
                 birnenschloss_send_group(tp, tl, mp, ml, area.as_mut_ptr(), area.len(), pp, 5 * n, sp, n)
             }
             Records(n, step) => {
-                let (pairs, mut statuses) = (pairs(step), [0xFF; 16]);
+                let pairs = pairs(step);
                 let (pp, sp) = (pairs.as_ptr(), statuses.as_mut_ptr());
                 birnenschloss_send_records(tp, tl, mp, ml, area.as_mut_ptr(), area.len(), pp, n, sp, n)
             }
+            Begin(from, n) => birnenschloss_sheet_begin(tp, tl, mp, ml, sheet, SHEET, FOLLOWED[from..].as_ptr(), n),
+            Drain => birnenschloss_sheet_drain(tp, tl, mp, ml, sheet, SHEET, text, TEXT),
         }
     }
 }
@@ -173,8 +211,9 @@ pub fn case12() -> Vec<u8> {
     t
 }
 
-// The calls before the measured one, the measured one, its answer, the marks that some objects have after it, and whether it
-// changed the slot of an I-PDU. Together they tell the paths of a call apart.
+// The calls before the measured one, the measured one, its answer, the marks that some objects have after it, whether it
+// changed the slot of an I-PDU, and how many objects the sheet follows then, with how many values drained and errors seen of
+// each. Together they tell the paths of a call apart.
 pub struct Row {
     pub name: &'static str,
     pub before: Vec<Call>,
@@ -182,13 +221,14 @@ pub struct Row {
     pub answer: (u32, u32),
     pub marks: (Range<u32>, u32),
     pub slot: (usize, bool),
+    pub sheet: (usize, u32, u32),
 }
 
 #[rustfmt::skip]
 pub fn rows(large: bool) -> Vec<Row> {
     let mut rows = Vec::new();
     let mut row = |name, before: &[Call], call, answer, marks, slot| {
-        rows.push(Row { name, before: before.to_vec(), call, answer, marks, slot })
+        rows.push(Row { name, before: before.to_vec(), call, answer, marks, slot, sheet: (0, 0, 0) })
     };
     let sent = [Start, Send(0, 5)];
     let confirmed = [Start, Send(0, 5), Confirm(0, 1)];
@@ -238,6 +278,28 @@ pub fn rows(large: bool) -> Vec<Row> {
         let due = ticks(&[&ticks(&[Start], 80)[..], &sends].concat(), 9);
         row("tick_28_due", &due, Tick, (0, 0), (64..122, 4), (16, false));
         row("indication_not_good", &[Start], Indication(16, 0), (0, 0), (64..72, 4), (16, false));
+        rows.extend(sheet_rows());
     }
     rows
+}
+
+/// Over `large`: a begin, drains of empty queues, of three values in each, of one value of ten digits, and of receive errors.
+/// The value is the length of the text, which tells values from `-`.
+#[rustfmt::skip]
+fn sheet_rows() -> [Row; 6] {
+    let row = |name, before: &[Call], call, value, marks, sheet| {
+        Row { name, before: before.to_vec(), call, answer: (0, value), marks, slot: (17, false), sheet }
+    };
+    let begun = [Start, Begin(0, 16)];
+    let frames = (0..RISING.len()).flat_map(|n| (17..26).map(move |k| Rising(k, n)));
+    let arrived: Vec<Call> = begun.into_iter().chain(frames).collect();
+    let errors: Vec<Call> = begun.into_iter().chain((17..26).map(|k| Indication(k, 0))).collect();
+    [
+        row("begin_16", &[Start], Begin(0, 16), 0, (72..80, 0), (16, 0, 0)),
+        row("drain_1_empty", &[Start, Begin(0, 1)], Drain, 17, (72..80, 0), (1, 0, 0)),
+        row("drain_1_of_1_long", &[Start, Begin(16, 1), Send(21, u32::MAX)], Drain, 54, (125..126, 1), (1, 1, 0)),
+        row("drain_16_empty", &begun, Drain, 273, (72..80, 0), (16, 0, 0)),
+        row("drain_16_of_3", &arrived, Drain, 449, (72..80, 1), (16, 3, 0)),
+        row("drain_16_errors", &errors, Drain, 273, (72..80, 0), (16, 0, 1)),
+    ]
 }

@@ -4,12 +4,14 @@ use crate::act::Act;
 use crate::call::Call;
 use crate::group::Form;
 use crate::layer::{self, Answer};
+use crate::sheet::{OnSheet, What};
 
 // What is only read, what may be written, and how many bytes of it there are.
 type In = *const u8;
 type Out = *mut u8;
 type N = usize;
 type Pairs = *const [u32; 2];
+type Numbers = *const u32;
 
 /// Any number but 0 tells of a good indication or confirm.
 const GOOD: u32 = 256;
@@ -36,6 +38,8 @@ extern "C" {
     fn peer_send_group(t: In, tn: N, m: Out, mn: N, area: Out, an: N, pairs: In, pn: N, statuses: Out, sn: N) -> Answer;
     fn peer_send_records(t: In, tn: N, m: Out, mn: N, area: Out, an: N, pairs: Pairs, pn: N, statuses: Out, sn: N)
         -> Answer;
+    fn peer_sheet_begin(t: In, tn: N, m: In, mn: N, sheet: Out, sn: N, objects: Numbers, on: N) -> Answer;
+    fn peer_sheet_drain(t: In, tn: N, m: Out, mn: N, sheet: Out, sn: N, text: Out, xn: N) -> Answer;
 }
 
 /// The calls of one layer.
@@ -59,6 +63,8 @@ pub struct Calls {
     tick: unsafe extern "C" fn(In, N, Out, N, Out, N) -> Answer,
     send_group: unsafe extern "C" fn(In, N, Out, N, Out, N, In, N, Out, N) -> Answer,
     send_records: unsafe extern "C" fn(In, N, Out, N, Out, N, Pairs, N, Out, N) -> Answer,
+    sheet_begin: unsafe extern "C" fn(In, N, In, N, Out, N, Numbers, N) -> Answer,
+    sheet_drain: unsafe extern "C" fn(In, N, Out, N, Out, N, Out, N) -> Answer,
 }
 
 pub const PROVED: Calls = Calls {
@@ -79,6 +85,8 @@ pub const PROVED: Calls = Calls {
     tick: layer::birnenschloss_tick,
     send_group: layer::birnenschloss_send_group,
     send_records: layer::birnenschloss_send_records,
+    sheet_begin: layer::birnenschloss_sheet_begin,
+    sheet_drain: layer::birnenschloss_sheet_drain,
 };
 
 pub const PEER: Calls = Calls {
@@ -99,6 +107,8 @@ pub const PEER: Calls = Calls {
     tick: peer_tick,
     send_group: peer_send_group,
     send_records: peer_send_records,
+    sheet_begin: peer_sheet_begin,
+    sheet_drain: peer_sheet_drain,
 };
 
 unsafe extern "C" fn nothing(_: In, _: N, _: Out, _: N) -> Answer {
@@ -121,8 +131,18 @@ pub fn ipdu_length(by: &Calls, table: &[u8], ipdu: u32) -> u32 {
     unsafe { (by.ipdu_length)(table.as_ptr(), table.len(), ipdu) }
 }
 
-/// Makes a call, or a group with this status list; gives number and value of the answer.
-pub fn make(by: &Calls, act: &Act, table: &[u8], m: &mut [u8], area: &mut [u8], statuses: &mut [u8]) -> (u32, u32) {
+/// What is lent beside the table: a group has statuses, a begin and a drain a sheet, a drain a text.
+pub struct Lent<'a> {
+    pub memory: &'a mut [u8],
+    pub area: &'a mut [u8],
+    pub statuses: &'a mut [u8],
+    pub sheet: &'a mut [u8],
+    pub text: &'a mut [u8],
+}
+
+/// Makes a call, a group, a begin or a drain; gives number and value of the answer.
+pub fn make(by: &Calls, act: &Act, table: &[u8], lent: Lent) -> (u32, u32) {
+    let Lent { memory: m, area, statuses, sheet, text } = lent;
     let (t, tn, mn, an, sn) = (table.as_ptr(), table.len(), m.len(), area.len(), statuses.len());
     let (m, area, statuses) = (m.as_mut_ptr(), area.as_mut_ptr(), statuses.as_mut_ptr());
     let number = |good: bool| if good { GOOD } else { 0 };
@@ -152,7 +172,14 @@ pub fn make(by: &Calls, act: &Act, table: &[u8], m: &mut [u8], area: &mut [u8], 
                     (by.send_records)(t, tn, m, mn, area, an, pairs.as_ptr().cast(), pairs.len(), statuses, sn)
                 }
             },
-            Act::Sheet(_) => unreachable!("the peer has no sheet, and none is made here"),
+            Act::Sheet(OnSheet { what: What::Begin(ref objects), .. }) => {
+                let (s, sn) = (sheet.as_mut_ptr(), sheet.len());
+                (by.sheet_begin)(t, tn, m, mn, s, sn, objects.as_ptr(), objects.len())
+            }
+            Act::Sheet(OnSheet { what: What::Drain(..), .. }) => {
+                let (s, sn) = (sheet.as_mut_ptr(), sheet.len());
+                (by.sheet_drain)(t, tn, m, mn, s, sn, text.as_mut_ptr(), text.len())
+            }
         }
     };
     (answer.number, answer.value)

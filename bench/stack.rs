@@ -30,11 +30,14 @@ struct Made {
 
 /// The function and the arguments of a call, as the C interface has them.
 #[rustfmt::skip]
-fn made(call: layer::Call, t: &[u8], m: &mut [u8], area: &mut [u8]) -> Made {
+fn made(call: layer::Call, t: &[u8], lent: &mut layer::Lent) -> Made {
+    let layer::Lent { memory: m, area, statuses, sheet, text } = lent;
     let (a, al) = (area.as_mut_ptr() as u64, area.len() as u64);
+    let (s, sl) = (sheet.as_mut_ptr() as u64, sheet.len() as u64);
+    let (x, xl) = (text.as_mut_ptr() as u64, text.len() as u64);
     let (f, fl) = (layer::FRAME.as_ptr() as u64, layer::FRAME.len() as u64);
     let short = matches!(call, StartShort) as usize;
-    let statuses = Box::leak(Box::new([0xFFu8; 16])).as_mut_ptr() as u64;
+    let statuses = statuses.as_mut_ptr() as u64;
     use layer::*;
     let (name, function, more): (_, _, &[u64]) = match call {
         Group(n, step) => {
@@ -56,8 +59,14 @@ fn made(call: layer::Call, t: &[u8], m: &mut [u8], area: &mut [u8]) -> Made {
         StartPeriodic => ("start_periodic", birnenschloss_start_periodic as *const (), &[]),
         StopPeriodic => ("stop_periodic", birnenschloss_stop_periodic as *const (), &[]),
         Indication(k, good) => ("indication", birnenschloss_indication as *const (), &[k.into(), good.into(), f, fl]),
+        Rising(k, n) => ("indication", birnenschloss_indication as *const (), &[k.into(), 1, RISING[n].as_ptr() as u64, fl]),
         Confirm(k, good) => ("confirm", birnenschloss_confirm as *const (), &[k.into(), good.into()]),
         Tick => ("tick", birnenschloss_tick as *const (), &[a, al]),
+        Begin(from, n) => {
+            let objects = FOLLOWED[from..].as_ptr() as u64;
+            ("sheet_begin", birnenschloss_sheet_begin as *const (), &[s, sl, objects, n as u64])
+        }
+        Drain => ("sheet_drain", birnenschloss_sheet_drain as *const (), &[s, sl, x, xl]),
     };
     let lent = [t.as_ptr() as usize, t.len(), m.as_mut_ptr() as usize, m.len() - short];
     Made { name, function, arguments: lent.into_iter().chain(more.iter().map(|n| *n as usize)).collect() }
@@ -101,11 +110,11 @@ fn main() {
         let arguments = vec![t.as_ptr() as usize, t.len()];
         note(Made { name: "check", function: birnenschloss_check as *const (), arguments }, paint, (0, 0));
         for row in layer::rows(large) {
-            let (mut m, mut area) = ([0xA5; 8192], [0; 256]);
+            let mut lent = layer::before_all();
             for &call in &row.before {
-                assert_eq!(layer::make(call, &t, &mut m, &mut area).number, 0, "a call before {}", row.name);
+                assert_eq!(layer::make(call, &t, &mut lent).number, 0, "a call before {}", row.name);
             }
-            note(made(row.call, &t, &mut m, &mut area), paint, row.answer);
+            note(made(row.call, &t, &mut lent), paint, row.answer);
         }
     }
     most.iter().for_each(|(name, depth)| println!("{name} {depth}"));

@@ -16,7 +16,8 @@ enum {
     WRONG_TABLE = 5,
     WRONG_MEMORY = 6,
     STOPPED = 7,
-    NOT_REQUESTED = 8
+    NOT_REQUESTED = 8,
+    NOT_FOLLOWED = 10
 };
 
 /* Limits and sizes. */

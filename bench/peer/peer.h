@@ -54,4 +54,9 @@ peer_answer peer_confirm(const uint8_t *table, size_t table_length, uint8_t *mem
 peer_answer peer_tick(const uint8_t *table, size_t table_length, uint8_t *memory, size_t memory_length,
                       uint8_t *area, size_t area_length);
 
+peer_answer peer_sheet_begin(const uint8_t *table, size_t table_length, const uint8_t *memory, size_t memory_length,
+                             uint8_t *sheet, size_t sheet_length, const uint32_t *objects, size_t objects_count);
+peer_answer peer_sheet_drain(const uint8_t *table, size_t table_length, uint8_t *memory, size_t memory_length,
+                             uint8_t *sheet, size_t sheet_length, uint8_t *text, size_t text_length);
+
 #endif
