@@ -33,6 +33,11 @@ ROWS = {
     "tick_8_periods": "tick, eight periods fire",
     "tick_deadline": "tick, one deadline runs out",
     "tick_28_due": "tick, 28 times run out",
+    "begin_16": "sheet: begin, 16 objects",
+    "drain_1_empty": "sheet: drain, 1 object, nothing waits",
+    "drain_1_of_1_long": "sheet: drain, 1 object, a value of ten digits",
+    "drain_16_empty": "sheet: drain, 16 objects, nothing waits",
+    "drain_16_of_3": "sheet: drain, 16 objects, three values each",
 }
 DOCUMENT = Path(__file__).resolve().parent.parent / "docs/BENCHMARKS.md"
 BEGIN, END = "<!-- calls: made by bench/all.sh --write -->\n", "<!-- end of calls -->\n"
