@@ -21,7 +21,8 @@ use Rattle.script.proofs.CharacterLists.{same-equal}
 use Rattle.trace.specs.Actions.{Action, single, asksRunning, leaves, memoryAfterAll}
 use Rattle.trace.specs.Demand3.{ActionsTyped, done}
 use Rattle.trace.specs.Filterings.{actionFilters, filterings, CallFilters, passed, NoStart, Fourteen, turns}
-use Rattle.trace.proofs.Pins.{tested, none}
+use Rattle.memory.proofs.Tests.{tested}
+use Rattle.trace.proofs.Pins.{none}
 use Rattle.trace.proofs.StepFilters.{all-filter}
 use Rattle.trace.proofs.OneInN.{one-in-n, in-turn}
 use Rattle.count_cases.specs.CountCases.{table, begun, round, rounds, Filters300, countRanges}

@@ -1,5 +1,5 @@
 -- A call over bytes leaves bytes, admitted or refused.
--- Assumes: a value that is told has 32 bits, and an indication is lent bytes (`TypedCall`).
+-- Assumes: a value that is told has 32 bits, and an indication is lent bytes (`Typed`).
 use mathlib.Core.Bool.{Bool, true, false}
 use mathlib.Core.List.{List, [], _++_}
 use mathlib.Core.Path.{_≡_, refl}
@@ -22,16 +22,21 @@ use Rattle.layer.specs.declared.Admission.{Admission}
 use Rattle.layer.specs.declared.Admission.the-variants.{Admitted, Refused}
 use Rattle.layer.specs.Admission.{workingMemory, admission, startAdmissionOf, startAdmission, ifAdmitted}
 use Rattle.layer.specs.Step.{Call, start, stop, send, initialise, receive, status, marks, clearMarks, startPeriodic, stopPeriodic, indication, confirm, tick}
-use Rattle.layer.specs.Step.{lentBytes, longEnough, toldSend, toldInitialise, describe, step}
-use Rattle.layer.specs.Promises.{TypedCall}
+use Rattle.layer.specs.Step.{Told, lentBytes, longEnough, toldSend, toldInitialise, Small, Typed, describe, step}
 use Rattle.layer.proofs.Admitted.{admits}
 use Rattle.layer.proofs.ReadyKept.{start-ready, own-ready}
+
+small-sent : {told : Told} → Small told → (i v : ℕ) → told ≡ toldSend i v → v < 2 ^ 32
+small-sent small i v e = rw e at small
+
+small-set : {told : Told} → Small told → (i v : ℕ) → told ≡ toldInitialise i v → v < 2 ^ 32
+small-set small i v e = rw e at small
 
 -- the bytes behind those that are used
 with-rest : (x m : List ℕ) → Bytes x → Bytes m → Bytes (x ++ drop memorySize m)
 with-rest x m bx bm = append-bytes x (drop memorySize m) bx (λ i. rw (getD-drop memorySize m i 0) (bm (memorySize + i)))
 
-module _ (t : List ℕ) (call : Call) (m : List ℕ) (bt : Bytes t) (bm : Bytes m) (y : TypedCall call) where
+module _ (t : List ℕ) (call : Call) (m : List ℕ) (bt : Bytes t) (bm : Bytes m) (y : Typed call) where
   abbrev After : Admission → Type 0
   After a = Bytes (ifAdmitted a m (lentBytes (describe call .lent)) (describe call .does t) .memory)
 
@@ -44,7 +49,7 @@ module _ (t : List ℕ) (call : Call) (m : List ℕ) (bt : Bytes t) (bm : Bytes 
       by : (a : Admission) → a ≡ admission t m fits → After a
       by (Refused r) e = bm
       by (Admitted c) e =
-          own-bytes c (own-ready t c call (workingMemory m) (admits t m fits bt bm (Admitted c) e .opens c refl .ready) (y .sent) (y .set) (y .bytes))
+          own-bytes c (own-ready t c call (workingMemory m) (admits t m fits bt bm (Admitted c) e .opens c refl .ready) (small-sent (y .0)) (small-set (y .0)) (y .1))
 
   pub step-bytes : describe call .running ≡ true → Bytes (step t call m .memory)
   unfolding step
@@ -64,7 +69,7 @@ start-bytes t m bt bm = by (check t) refl
         (λ long. with-rest (started t c) m (start-ready t c (accepted-right t c h) bt .bytes) bm)
         (λ short. bm)
 
-pub call-bytes : (t : List ℕ) (call : Call) (m : List ℕ) → Bytes t → Bytes m → TypedCall call → Bytes (step t call m .memory)
+pub call-bytes : (t : List ℕ) (call : Call) (m : List ℕ) → Bytes t → Bytes m → Typed call → Bytes (step t call m .memory)
 call-bytes t start m bt bm y = start-bytes t m bt bm
 call-bytes t stop m bt bm y = step-bytes t stop m bt bm y refl
 call-bytes t (send i v area) m bt bm y = step-bytes t (send i v area) m bt bm y refl

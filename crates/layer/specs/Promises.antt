@@ -4,7 +4,7 @@
 use mathlib.Core.Bool.{Bool, true, not, _&&_}
 use mathlib.Core.List.{List}
 use mathlib.Core.Path.{_≡_}
-use Prim.Native.Nat.{ℕ, _^_, _<_}
+use Prim.Native.Nat.{ℕ}
 use lib.Dec.{eqb}
 use Rattle.memory.specs.Bytes.{Bytes}
 use Rattle.table.specs.Records.{receiving, counts, objectRecord}
@@ -15,7 +15,7 @@ use Rattle.layer.specs.declared.Admission.{Admission}
 use Rattle.layer.specs.declared.Admission.the-variants.{Admitted, Refused}
 use Rattle.layer.specs.declared.Reply.{Reply}
 use Rattle.layer.specs.Admission.{admission, workingMemory}
-use Rattle.layer.specs.Step.{Call, receive, status, marks, clearMarks, toldSend, toldInitialise, describe, step}
+use Rattle.layer.specs.Step.{receive, status, marks, clearMarks, step}
 
 -- ---- whether a call goes on
 
@@ -73,11 +73,3 @@ queued t i = isObject t (counts t) receiving i && not (eqb (objectRecord t (coun
 -- the values that wait for it, the oldest first
 unfoldable pub waitingFor : List ℕ → ℕ → List ℕ → List ℕ
 waitingFor t i m = waiting (objectRecord t (counts t .ipdus) i .depth) i (workingMemory m)
-
--- ---- any call
-
--- its arguments are of the types that it takes: values of 32 bits, bytes
-pub record TypedCall (call : Call) : Type 0 where
-  pub sent : (i v : ℕ) → describe call .told ≡ toldSend i v → v < 2 ^ 32
-  pub set : (i v : ℕ) → describe call .told ≡ toldInitialise i v → v < 2 ^ 32
-  pub bytes : Bytes (describe call .bytes)

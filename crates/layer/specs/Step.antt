@@ -2,9 +2,10 @@
 -- Assumes nothing.
 use mathlib.Core.Bool.{Bool, true, false}
 use mathlib.Core.List.{List, [], _∷_}
-use Prim.Native.Nat.{ℕ}
+use Prim.Native.Nat.{ℕ, _^_, _<_}
 use lib.Dec.{leb}
 use lib.ListN.{length}
+use Rattle.memory.specs.Bytes.{Bytes}
 use Rattle.memory.specs.Search.{pick}
 use Rattle.table.specs.declared.Counts.{Counts}
 use Rattle.state.specs.Layout.{areaSize}
@@ -82,6 +83,20 @@ describe stopPeriodic = described noArea true toldNothing [] (periodicIn false)
 describe (indication k good bytes) = described noArea true toldNothing bytes (λ t c. indicationIn t c k good bytes)
 describe (confirm k good) = described noArea true toldNothing [] (λ t c. confirmIn t c k good)
 describe (tick area) = described (requests area) true toldNothing [] (λ t c. tickIn t c area)
+
+-- ---- arguments of the types that a call takes
+
+-- a value that is sent or initialised has 32 bits
+abbrev pub Small : Told → Type 0
+Small toldStart = Unit {0}
+Small toldStop = Unit {0}
+Small (toldSend i v) = v < 2 ^ 32
+Small (toldInitialise i v) = v < 2 ^ 32
+Small toldNothing = Unit {0}
+
+-- and an indication is lent bytes; a request area may hold anything
+abbrev pub Typed : Call → Type 0
+Typed call = Small (describe call .told) × Bytes (describe call .bytes)
 
 -- ---- what it does
 

@@ -6,10 +6,12 @@ use mathlib.Core.Path.{_≡_, refl, sym, _∙_}
 use mathlib.Core.List.{List, [], _∷_}
 use Prim.Native.Nat.{ℕ, zero, suc, _≤_, _<_}
 use native.Mathlib.Nat.{le-of-suc-le-suc, not-suc-le-zero}
-use borrow.Author.Tests.{not-true, not-false}
+use borrow.Author.Tests.{ltb-true, not-true, not-false}
+use lib.Dec.{ltb}
 use lib.ListN.{getD}
 use native.Mathlib.Decide.{decLt, ℕ-discrete}
 use native.Mathlib.Omega.{arith}
+use Rattle.memory.specs.Bytes.{Bytes}
 use Rattle.memory.specs.Search.{pick}
 
 pub lt-or-le : (a b : ℕ) → (a < b) ⊎ (b ≤ a)
@@ -85,3 +87,14 @@ not-found test found x y e failed = rw (sym e ∙ not-true _ failed)
 
 pub found-so : {A : Type 0} (test found : Bool) (x y z : A) → found ≡ test → not found ≡ false → z ≡ x → z ≡ pick test x y
 found-so test found x y z e passed same = rw (sym e ∙ not-false _ passed) same
+
+-- ---- bytes, by a computed test
+
+abbrev pub allBytes : List ℕ → Bool
+allBytes [] = true
+allBytes (b ∷ bs) = ltb b 256 && allBytes bs
+
+pub tested : (bs : List ℕ) → allBytes bs ≡ true → Bytes bs
+tested [] e i = omega arith
+tested (b ∷ bs) e zero = ltb-true b 256 (and-split (ltb b 256) (allBytes bs) e .0)
+tested (b ∷ bs) e (suc i) = tested bs (and-split (ltb b 256) (allBytes bs) e .1) i

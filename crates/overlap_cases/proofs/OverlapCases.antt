@@ -24,7 +24,8 @@ use Rattle.trace.specs.Book.{Entry, opened, advance}
 use Rattle.trace.specs.Actions.{Action, single, group, memoryAfterAll, bookAfterAll}
 use Rattle.trace.specs.Demand3.{ActionsTyped, done, frame, names}
 use Rattle.trace.specs.RoundTrip.{readingIn, storedLast, coveredSince, messagePlace, ipduBytes}
-use Rattle.trace.proofs.Pins.{tested, none}
+use Rattle.memory.proofs.Tests.{tested}
+use Rattle.trace.proofs.Pins.{none}
 use Rattle.trace.proofs.Demand3.{demand-3}
 use Rattle.trace.proofs.RoundTrip.{stored-last, stored-earlier}
 use Rattle.overlap_cases.specs.OverlapCases.{doorsFirst, overlapCases}

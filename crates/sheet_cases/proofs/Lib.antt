@@ -1,1 +1,2 @@
 pub mod SheetCases
+pub mod SheetPins

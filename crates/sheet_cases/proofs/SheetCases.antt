@@ -15,11 +15,11 @@ use Rattle.sheet_cases.specs.SheetCases.{played, twoCases, counted, coun
 use Rattle.sheet_cases.specs.SheetCases.{refused, refusedShows, refusedLater, refusedLaterShows, wrongTable, wrongTableShows}
 
 -- all that a begin or a drain goes through
-unfoldable sheetDefinitions : Unit {0}
+unfoldable pub sheetDefinitions : Unit {0}
 unfolding refusal received statusRead marksRead marksCleared waiting waitingFor begunAt followedAt rowAt withRow sheetInRange withReply withMarks
 sheetDefinitions = tt
 
-unfoldable drainDefinitions : Unit {0}
+unfoldable pub drainDefinitions : Unit {0}
 unfolding takeUpTo takeAll drainQueue seeMarks drainObject drainEach decimal valueField valueFields rowLine rowLines objectsRefusal sheetHead newSheet begin drain
 drainDefinitions = tt
 

@@ -6,11 +6,10 @@ use mathlib.Core.List.{List, [], _∷_}
 use mathlib.Core.Path.{_≡_, refl, ap}
 use Prim.Native.Nat.{ℕ, zero, suc, _<_}
 use native.Mathlib.Omega.{arith}
-use borrow.Author.Tests.{ltb-true, eq-eqb}
-use lib.Dec.{ltb}
+use borrow.Author.Tests.{eq-eqb}
 use lib.ListN.{length, replicate}
 use Rattle.memory.specs.Bytes.{Bytes, value, bytesOf, part, numberAt}
-use Rattle.memory.proofs.Tests.{and-split, true-not-false}
+use Rattle.memory.proofs.Tests.{tested, true-not-false}
 use Rattle.bits.specs.Bits.{bit, frameBit, place, owns}
 use Rattle.filter.specs.Filters.{passes, filterOf}
 use Rattle.table.specs.Records.{sending, counts, ipduRecord, objectRecord}
@@ -34,17 +33,6 @@ use Rattle.trace.proofs.Refusals.{refused-leaves, never-6}
 use Rattle.trace.specs.RoundTrip.{readingIn, Runs, memoryOf, Takes}
 use Rattle.trace.proofs.Demand3.{demand-3}
 use Rattle.trace.proofs.RoundTrip.{frames-read, reading-round-trip}
-
--- ---- bytes, by a computed test
-
-abbrev allBytes : List ℕ → Bool
-allBytes [] = true
-allBytes (b ∷ bs) = ltb b 256 && allBytes bs
-
-pub tested : (bs : List ℕ) → allBytes bs ≡ true → Bytes bs
-tested [] e i = omega arith
-tested (b ∷ bs) e zero = ltb-true b 256 (and-split (ltb b 256) (allBytes bs) e .0)
-tested (b ∷ bs) e (suc i) = tested bs (and-split (ltb b 256) (allBytes bs) e .1) i
 
 -- ---- premises that hold
 

@@ -20,20 +20,10 @@ use Rattle.layer.specs.Step.{Call, start, send, tick, Lent, noArea, requests, l
 use Rattle.group.specs.Groups.{Group, GroupOutcome, groupStep}
 use Rattle.trace.specs.Book.{Book, unopened, keeps, accepts, advance, bookBit}
 use Rattle.trace.specs.Actions.{Action, single, group, leaves, groupSends, acceptsGroup, advanceBy}
-
 -- ---- calls and lists of them
 
--- a value that is sent has 32 bits
-abbrev pub Small : Told → Type 0
-Small toldStart = Unit {0}
-Small toldStop = Unit {0}
-Small (toldSend i v) = v < 2 ^ 32
-Small (toldInitialise i v) = v < 2 ^ 32
-Small toldNothing = Unit {0}
-
--- the arguments are of the types that a call takes: values of 32 bits, bytes. A request area may hold anything
-abbrev pub Typed : Call → Type 0
-Typed call = Small (describe call .told) × Bytes (describe call .bytes)
+-- whose arguments are of the types that a call takes
+pub use Rattle.layer.specs.Step.{Small, Typed}
 
 abbrev pub AllTyped : List Call → Type 0
 AllTyped [] = Unit {0}
