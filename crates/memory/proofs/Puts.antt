@@ -2,12 +2,12 @@
 -- Assumes nothing.
 use mathlib.Core.List.{List, [], _∷_, _++_}
 use mathlib.Core.Path.{_≡_, refl}
-use Prim.Native.Nat.{ℕ, suc, _+_, _/_, _%_, _^_, _≤_, _<_}
+use Prim.Native.Nat.{ℕ, suc, _+_, _≤_}
 use native.Mathlib.Omega.{arith}
 use lib.ListN.{length, set, length-append}
 use lib.Seq.{sets, length-sets}
-use Rattle.memory.specs.Texts.{digitOf, decimal, numberField, Put}
-use Rattle.memory.proofs.Decimals.{decimal-one, decimal-more, decimal-length}
+use Rattle.memory.specs.Texts.{numberField, Put}
+use Rattle.memory.proofs.Decimals.{decimal-length}
 
 sets-append : (a b m : List ℕ) (at : ℕ) → sets m at (a ++ b) ≡ sets (sets m at a) (at + length a) b
 sets-append [] b m at = let e : at + length {A = ℕ} [] ≡ at = omega arith in rw e
@@ -40,29 +40,6 @@ put-as put same end = rw (← same, ← end) put
 -- a byte, and a text behind it
 pub put-byte : {at b e : ℕ} {a m n : List ℕ} → Put (at + 1) a (set m at b) n e → Put at (b ∷ a) m n e
 put-byte {at} {b} {m = m} rest = put-append (put-one at b m) rest
-
--- ---- decimals
-
-module _ (n : ℕ) (low : n < 10) where
-  pub put-decimal-one : {at e : ℕ} {m p : List ℕ} → Put at (digitOf n ∷ []) m p e → Put at (decimal n) m p e
-  put-decimal-one put = rw (decimal-one n low) put
-
-  pub room-for-one : (at : ℕ) (m : List ℕ) → at + length (decimal n) ≤ length m → at < length m
-  room-for-one at m room = omega (arith, rw (decimal-one n low) at room)
-
-module _ (n : ℕ) (fits : n < 2 ^ 64) (high : 10 ≤ n) where
-  pub put-decimal-more : {at e f : ℕ} {m p q : List ℕ} → Put at (decimal (n / 10)) m p e → Put e (digitOf (n % 10) ∷ []) p q f
-      → Put at (decimal n) m q f
-  put-decimal-more front last = rw (decimal-more n high (omega (arith, fits))) (put-append front last)
-
-  tenth-length : length (decimal n) ≡ length (decimal (n / 10)) + 1
-  tenth-length = rw (decimal-more n high (omega (arith, fits)), length-append)
-
-  pub room-for-tenth : (at : ℕ) (m : List ℕ) → at + length (decimal n) ≤ length m → at + length (decimal (n / 10)) ≤ length m
-  room-for-tenth at m room = omega (arith, tenth-length)
-
-  pub room-for-last : {at e : ℕ} {m p : List ℕ} → at + length (decimal n) ≤ length m → Put at (decimal (n / 10)) m p e → e < length p
-  room-for-last room front = omega (arith, tenth-length, front .behind, put-length front)
 
 -- a blank and at most 20 digits
 pub number-end : (n : ℕ) {at e : ℕ} {m p : List ℕ} → Put at (numberField n) m p e → e ≤ at + 21

@@ -18,16 +18,33 @@ pub fn put_number(out: &mut [u8], at: usize, n: u64) -> usize
     put_decimal(out, at + 1, n)
 }
 
-// A number in decimals with no leading zeros.
+// A number in decimals with no leading zeros: the last digit is stored first.
 pub fn put_decimal(out: &mut [u8], at: usize, n: u64) -> usize
     requires { ⌜ at + length (decimal n) ≤ length (now out) ⌝ }
     ensures { λ r. ⌜ Put at (decimal n) (now (out .entry)) (now (out .exit)) r ⌝ }
 {
-    if n < 10 {
-        return put_digit(out, at, n as u32);
+    let count = digits(n);
+    let mut left = n;
+    let mut i = count;
+    while 0 < i {
+        i -= 1;
+        out[at + i] = 48 + (left % 10) as u8;
+        left = left / 10;
     }
-    let last = put_decimal(out, at, n / 10);
-    put_digit(out, last, (n % 10) as u32)
+    at + count
+}
+
+// How many digits a number has.
+fn digits(n: u64) -> usize
+    ensures { λ r. ⌜ r ≡ length (decimal n) ⌝ }
+{
+    let mut left = n;
+    let mut k = 1;
+    while 10 <= left {
+        left = left / 10;
+        k += 1;
+    }
+    k
 }
 
 pub fn put_digit(out: &mut [u8], at: usize, d: u32) -> usize
