@@ -1,4 +1,4 @@
-// Little-endian numbers in lent bytes, and bytes cleared. Every caller has checked that the bytes are there.
+// Little-endian numbers in lent bytes, bytes cleared, and decimals put as text. Every caller has checked that the bytes are there.
 mod texts;
 
 pub use texts::BLANK;

@@ -49,12 +49,10 @@ events =
 typed : EventsTyped events
 typed = (
   (tt, tested (7 ∷ 200 ∷ 0 ∷ 0 ∷ []) refl),
-  (tt, tested (8 ∷ 100 ∷ 0 ∷ 0 ∷ []) refl),
-  (tt, tested (9 ∷ 150 ∷ 0 ∷ 0 ∷ []) refl),
-  (tt, tested [] refl),
-  (tt, tested [] refl),
-  (tt, tested (3 ∷ 255 ∷ 0 ∷ 0 ∷ []) refl),
-  tt,
+  (
+    (tt, tested (8 ∷ 100 ∷ 0 ∷ 0 ∷ []) refl),
+    ((tt, tested (9 ∷ 150 ∷ 0 ∷ 0 ∷ []) refl), ((tt, tested [] refl), ((tt, tested [] refl), ((tt, tested (3 ∷ 255 ∷ 0 ∷ 0 ∷ []) refl), tt)))),
+  ),
 )
 
 table-bytes : Bytes twoCases
