@@ -8,7 +8,7 @@ use Rattle.layer.specs.Promises.{refusal, received, statusRead, marksRead, mark
 use Rattle.sheet.specs.Layout.{begunAt, followedAt, rowAt, withRow, sheetInRange}
 use Rattle.sheet.specs.Numbers.{withReply, withMarks}
 use Rattle.sheet.specs.Drains.{takeUpTo, takeAll, drainQueue, seeMarks, drainObject, drainEach}
-use Rattle.sheet.specs.Lines.{valueField, valueFields, rowLine, rowLines}
+use Rattle.sheet.specs.Lines.{valueField, rowNumbers, rowLine, rowLines}
 use Rattle.sheet.specs.Sheets.{objectsRefusal, sheetHead, newSheet, begin, drain}
 use Rattle.cases.proofs.Definitions.{definitions}
 use Rattle.sheet_cases.specs.SheetCases.{played, twoCases, counted, countedShows, restarted, restartedShows, marked, markedShows}
@@ -20,7 +20,7 @@ unfolding refusal received statusRead marksRead marksCleared waiting waitingFor 
 sheetDefinitions = tt
 
 unfoldable pub drainDefinitions : Unit {0}
-unfolding takeUpTo takeAll drainQueue seeMarks drainObject drainEach decimal valueField valueFields rowLine rowLines objectsRefusal sheetHead newSheet begin drain
+unfolding takeUpTo takeAll drainQueue seeMarks drainObject drainEach decimal valueField rowNumbers rowLine rowLines objectsRefusal sheetHead newSheet begin drain
 drainDefinitions = tt
 
 pub sheets-count : (played twoCases counted ≡ countedShows) × (played twoCases restarted ≡ restartedShows) × (played twoCases marked ≡ markedShows)
