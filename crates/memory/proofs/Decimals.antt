@@ -1,6 +1,6 @@
 -- Laws of `decimal`: a number's digits are its last one after those of its tenth, and how many there are.
 -- Assumes nothing.
-use mathlib.Core.List.{List, [], _∷_, _++_}
+use mathlib.Core.List.{List, [], _∷_, _++_, append-assoc}
 use mathlib.Core.Logic.{⊎-elim}
 use mathlib.Core.Path.{_≡_, sym, ap, _∙_}
 use Prim.Native.Nat.{ℕ, zero, suc, _/_, _%_, _^_, _≤_, _<_, zero-le}
@@ -37,6 +37,20 @@ pub decimal-more : (n : ℕ) → 10 ≤ n → n < 10 ^ 20 → decimal n ≡ deci
 unfolding decimal
 decimal-more n high h =
     digits-more 19 n high ∙ ap (λ (l : List ℕ). l ++ digitOf (n % 10) ∷ []) (sym (digits-enough 18 (n / 10) (omega arith)))
+
+-- two digits, and two more
+pub decimal-two : (n : ℕ) → 10 ≤ n → n < 100 → decimal n ≡ digitOf (n / 10) ∷ digitOf (n % 10) ∷ []
+decimal-two n high low =
+    decimal-more n high (omega (arith, low)) ∙ ap (λ (l : List ℕ). l ++ digitOf (n % 10) ∷ []) (decimal-one (n / 10) (omega (arith, low)))
+
+pub decimal-by-two : (n : ℕ) → 100 ≤ n → n < 10 ^ 20 → decimal n ≡ decimal (n / 100) ++ digitOf (n % 100 / 10) ∷ digitOf (n % 100 % 10) ∷ []
+decimal-by-two n high h =
+    let tenth : n / 10 / 10 ≡ n / 100 = omega arith in
+    let first : n / 10 % 10 ≡ n % 100 / 10 = omega arith in
+    let last : n % 10 ≡ n % 100 % 10 = omega arith in
+    decimal-more n (omega (arith, high)) h
+    ∙ ap (λ (l : List ℕ). l ++ digitOf (n % 10) ∷ []) (decimal-more (n / 10) (omega (arith, high)) (omega (arith, h)))
+    ∙ rw (tenth, first, last) (append-assoc (decimal (n / 100)) (digitOf (n % 100 / 10) ∷ []) (digitOf (n % 100 % 10) ∷ []))
 
 -- ---- how many digits
 

@@ -276,7 +276,7 @@ abbrev pub Apart : ℕ → ℕ → ℕ → ℕ → Type 0
 Apart a n b k = (a + n ≤ b) ⊎ (b + k ≤ a)
 
 -- one store and a run of them
-pub set-sets : (f m : List ℕ) (a j v : ℕ) → (j + 1 ≤ a) ⊎ (a + length f ≤ j) → set (sets m a f) j v ≡ sets (set m j v) a f
+set-sets : (f m : List ℕ) (a j v : ℕ) → (j + 1 ≤ a) ⊎ (a + length f ≤ j) → set (sets m a f) j v ≡ sets (set m j v) a f
 set-sets [] m a j v side = refl
 set-sets (x ∷ f) m a j v side =
     let ne : a ≡ j → ⊥ = λ e. ⊎-elim (λ (b : j + 1 ≤ a). omega arith) (λ (b : a + length (x ∷ f) ≤ j). omega arith) side in

@@ -1,7 +1,7 @@
 // Numbers in decimals, and the end of a line.
 ghost use mathlib.Core.List.{[], _∷_};
 ghost use mathlib.Core.Path.{_≡_};
-ghost use Prim.Native.Nat.{_+_, _≤_, _<_};
+ghost use Prim.Native.Nat.{_+_, _/_, _%_, _≤_, _<_};
 ghost use lib.ListN.{length};
 ghost use Rattle.memory.specs.Texts.{lineFeed, digitOf, decimal, numberField, Put};
 
@@ -18,33 +18,29 @@ pub fn put_number(out: &mut [u8], at: usize, n: u64) -> usize
     put_decimal(out, at + 1, n)
 }
 
-// A number in decimals with no leading zeros: the last digit is stored first.
+// A number in decimals with no leading zeros, two digits at a time.
 pub fn put_decimal(out: &mut [u8], at: usize, n: u64) -> usize
     requires { ⌜ at + length (decimal n) ≤ length (now out) ⌝ }
     ensures { λ r. ⌜ Put at (decimal n) (now (out .entry)) (now (out .exit)) r ⌝ }
 {
-    let count = digits(n);
-    let mut left = n;
-    let mut i = count;
-    while 0 < i {
-        i -= 1;
-        out[at + i] = 48 + (left % 10) as u8;
-        left = left / 10;
+    if n < 10 {
+        return put_digit(out, at, n as u32);
     }
-    at + count
+    if n < 100 {
+        return put_two(out, at, n as u32);
+    }
+    let last = put_decimal(out, at, n / 100);
+    put_two(out, last, (n % 100) as u32)
 }
 
-// How many digits a number has.
-fn digits(n: u64) -> usize
-    ensures { λ r. ⌜ r ≡ length (decimal n) ⌝ }
+fn put_two(out: &mut [u8], at: usize, d: u32) -> usize
+    requires { ⌜ d < 100 ⌝ }
+    requires { ⌜ at + 2 ≤ length (now out) ⌝ }
+    ensures { λ r. ⌜ Put at (digitOf (d / 10) ∷ digitOf (d % 10) ∷ []) (now (out .entry)) (now (out .exit)) r ⌝ }
 {
-    let mut left = n;
-    let mut k = 1;
-    while 10 <= left {
-        left = left / 10;
-        k += 1;
-    }
-    k
+    out[at] = 48 + (d / 10) as u8;
+    out[at + 1] = 48 + (d % 10) as u8;
+    at + 2
 }
 
 pub fn put_digit(out: &mut [u8], at: usize, d: u32) -> usize
