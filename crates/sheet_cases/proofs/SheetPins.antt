@@ -33,7 +33,7 @@ is = 1 ∷ 0 ∷ []
 abbrev text : List ℕ
 text = replicate textSize 170
 
--- three frames, of which object 0 loses the last; a drain; a bus that fails twice and a frame; a drain
+-- three frames, of which object 0 loses the last; a drain; a bus that fails; a drain
 abbrev events : List Event
 events =
     made (frame 7 200)
@@ -41,18 +41,13 @@ events =
     ∷ made (frame 9 150)
     ∷ drained text
     ∷ made failed
-    ∷ made failed
-    ∷ made (frame 3 255)
     ∷ drained text
     ∷ []
 
 typed : EventsTyped events
 typed = (
   (tt, tested (7 ∷ 200 ∷ 0 ∷ 0 ∷ []) refl),
-  (
-    (tt, tested (8 ∷ 100 ∷ 0 ∷ 0 ∷ []) refl),
-    ((tt, tested (9 ∷ 150 ∷ 0 ∷ 0 ∷ []) refl), ((tt, tested [] refl), ((tt, tested [] refl), ((tt, tested (3 ∷ 255 ∷ 0 ∷ 0 ∷ []) refl), tt)))),
-  ),
+  ((tt, tested (8 ∷ 100 ∷ 0 ∷ 0 ∷ []) refl), ((tt, tested (9 ∷ 150 ∷ 0 ∷ 0 ∷ []) refl), ((tt, tested [] refl), tt))),
 )
 
 table-bytes : Bytes twoCases
@@ -71,13 +66,13 @@ begins = refl
 abbrev sheet : List ℕ
 sheet = begin twoCases m s is .sheet
 
--- what object 0 got, which was given as number 1: three values, the first with an overflow; its marks, at the second drain with receive error
-pub replies-pin : (repliesTo (drainsIn twoCases events m sheet) sheet 1 ≡ reply 3 7 ∷ reply 0 8 ∷ reply 0 3 ∷ []) × (marksOf (drainsIn twoCases events m sheet) sheet 1 ≡ 1 ∷ 5 ∷ [])
+-- what object 0 got, which was given as number 1: two values, the first with an overflow; its marks, at the second drain with receive error
+pub replies-pin : (repliesTo (drainsIn twoCases events m sheet) sheet 1 ≡ reply 3 7 ∷ reply 0 8 ∷ []) × (marksOf (drainsIn twoCases events m sheet) sheet 1 ≡ 1 ∷ 5 ∷ [])
 unfolding definitions sheetDefinitions drainDefinitions
 replies-pin = (refl, refl)
 
 -- so its row, from the theorem
-pub row-pin : rowAt (sheetAfter (drainsIn twoCases events m sheet) sheet) 1 ≡ row 0 3 7 3 3 8 1 1
+pub row-pin : rowAt (sheetAfter (drainsIn twoCases events m sheet) sheet) 1 ≡ row 0 2 7 8 7 8 1 1
 unfolding workedOut
 row-pin =
     journey-numbers twoCases m s is table-bytes (start-bytes twoCases (replicate memorySize 165) table-bytes (tested (replicate memorySize 165) refl)) (tested s refl) small begins
