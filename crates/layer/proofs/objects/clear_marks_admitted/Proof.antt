@@ -20,5 +20,5 @@ clear-marks-admitted-spec =
     (λ c κs. search needs)
     (λ c. search needs)
     (λ c.
-    let i = c .before .before .before .before .before .before .before .before .args .object in
-    search (needs, goes-gives (clearMarks i) refl refl)))
+    let at-start = c .before .before .before .before .before .before .before .before in
+    search (needs, goes-gives (clearMarks (at-start .args .object)) refl refl)))

@@ -18,5 +18,5 @@ status-admitted-spec =
     (λ c κs. search (needs, goes-ready))
     (λ c κs. search needs)
     (λ c.
-    let i = c .before .before .before .before .before .before .args .object in
-    search (needs, goes-reads (status i) refl refl)))
+    let at-start = c .before .before .before .before .before .before in
+    search (needs, goes-reads (status (at-start .args .object)) refl refl)))
