@@ -1,6 +1,11 @@
-// Little-endian numbers in lent bytes, bytes cleared, and decimals put as text. Every caller has checked that the bytes are there.
+// Little-endian numbers in lent bytes, bytes cleared, decimals put as text, and the order of values that are signed or not. Every caller
+// has checked that the bytes are there.
+mod integers;
 mod texts;
 
+pub use integers::at_most;
+pub use integers::less_than;
+pub use integers::put_integer;
 pub use texts::BLANK;
 pub use texts::put_decimal;
 pub use texts::put_digit;

@@ -1,0 +1,126 @@
+-- Laws of values that are signed or not: which integer a value means, that ranks stand in the order of the integers, and the text of a value.
+-- Assumes nothing.
+use mathlib.Core.Bool.{Bool, true, false, not, _&&_}
+use mathlib.Core.List.{List, _∷_}
+use mathlib.Core.Logic.{⊎-elim}
+use mathlib.Core.Path.{_≡_, refl, sym, ap, ap₂, _∙_}
+use Prim.Native.Nat.{ℕ, suc, _+_, _-_, _%_, _^_, _≤_, _<_}
+use native.Mathlib.Omega.{arith}
+use borrow.Author.Tests.{leb-true, leb-false, lt-ltb, le-ltb, le-leb, lt-leb}
+use lib.Dec.{leb, ltb}
+use lib.IntN.{ℤ, pos, negsuc}
+use lib.ListN.{length, set}
+use lib.Signed.{leZ, ltZ}
+use Rattle.memory.specs.Texts.{Put, blank, decimal, numberField}
+use Rattle.memory.specs.Integers.{isNegative, integer, atMost, lessThan, rank, minus, integerField}
+use Rattle.memory.proofs.Tests.{lt-or-le, and-split, true-or-false}
+use Rattle.memory.proofs.Decimals.{decimal-within}
+use Rattle.memory.proofs.Puts.{put-byte}
+
+-- ---- the integer
+
+pub integer-low : (signed : Bool) (v : ℕ) → v < 2 ^ 31 → integer signed v ≡ pos v
+unfolding integer
+integer-low true v low = rw (lt-leb (2 ^ 31) v low)
+integer-low false v low = refl
+
+pub integer-high : (v : ℕ) → 2 ^ 31 ≤ v → v < 2 ^ 32 → integer true v ≡ negsuc (2 ^ 32 - suc v)
+unfolding integer
+integer-high v high low = rw (le-leb (2 ^ 31) v high, lt-ltb v (2 ^ 32) low)
+
+pub integer-plain : (signed : Bool) (v : ℕ) → isNegative signed v ≡ false → integer signed v ≡ pos v
+unfolding integer
+integer-plain signed v e = rw e
+
+pub integer-negative : (signed : Bool) (v : ℕ) → isNegative signed v ≡ true → v < 2 ^ 32 → integer signed v ≡ negsuc (2 ^ 32 - suc v)
+unfolding integer
+integer-negative signed v e low = rw (e, lt-ltb v (2 ^ 32) low)
+
+-- ---- the order
+
+-- two tests of order that hold for the same reason
+leb-as : (a b c d : ℕ) → (a ≤ b → c ≤ d) → (b < a → d < c) → leb a b ≡ leb c d
+leb-as a b c d same other =
+    ⊎-elim
+    (λ (h : b < a). rw (lt-leb a b h, lt-leb c d (other h)))
+    (λ (h : a ≤ b). rw (le-leb a b h, le-leb c d (same h)))
+    (lt-or-le b a)
+
+module _ (v : ℕ) where
+  rank-low : v < 2 ^ 31 → rank true v ≡ v + 2 ^ 31
+  unfolding rank
+  rank-low low = omega (arith, low)
+
+  rank-high : 2 ^ 31 ≤ v → v < 2 ^ 32 → rank true v ≡ v - 2 ^ 31
+  unfolding rank
+  rank-high high low = omega (arith, high, low)
+
+-- ranks stand in the order of the integers
+pub rank-at-most : (signed : Bool) (a b : ℕ) → a < 2 ^ 32 → b < 2 ^ 32 → leb (rank signed a) (rank signed b) ≡ atMost signed a b
+unfolding atMost
+rank-at-most false a b fits also = unfold rank integer in refl
+rank-at-most true a b fits also =
+    ⊎-elim
+    (λ (h : a < 2 ^ 31).
+    ⊎-elim
+    (λ (k : b < 2 ^ 31). rw (rank-low a h, rank-low b k, integer-low true a h, integer-low true b k) (leb-as (a + 2 ^ 31) (b + 2 ^ 31) a b (λ x. omega arith) (λ x. omega arith)))
+    (λ (k : 2 ^ 31 ≤ b). rw (rank-low a h, rank-high b k also, integer-low true a h, integer-high b k also) (lt-leb (a + 2 ^ 31) (b - 2 ^ 31) (omega arith)))
+    (lt-or-le b (2 ^ 31)))
+    (λ (h : 2 ^ 31 ≤ a).
+    ⊎-elim
+    (λ (k : b < 2 ^ 31). rw (rank-high a h fits, rank-low b k, integer-high a h fits, integer-low true b k) (le-leb (a - 2 ^ 31) (b + 2 ^ 31) (omega arith)))
+    (λ (k : 2 ^ 31 ≤ b). rw (rank-high a h fits, rank-high b k also, integer-high a h fits, integer-high b k also)
+    (leb-as (a - 2 ^ 31) (b - 2 ^ 31) (2 ^ 32 - suc b) (2 ^ 32 - suc a) (λ x. omega arith) (λ x. omega arith)))
+    (lt-or-le b (2 ^ 31)))
+    (lt-or-le a (2 ^ 31))
+
+not-leb : (a b : ℕ) → not (leb b a) ≡ ltb a b
+not-leb a b =
+    ⊎-elim
+    (λ (h : a < b). rw (lt-leb b a h, lt-ltb a b h))
+    (λ (h : b ≤ a). rw (le-leb b a h, le-ltb a b h))
+    (lt-or-le a b)
+
+not-leZ : (x y : ℤ) → not (leZ y x) ≡ ltZ x y
+not-leZ (pos a) (pos b) = not-leb a b
+not-leZ (pos a) (negsuc b) = refl
+not-leZ (negsuc a) (pos b) = refl
+not-leZ (negsuc a) (negsuc b) = not-leb b a
+
+-- the order is total
+pub not-at-most : (signed : Bool) (a b : ℕ) → not (atMost signed b a) ≡ lessThan signed a b
+unfolding atMost lessThan
+not-at-most signed a b = not-leZ (integer signed a) (integer signed b)
+
+-- ---- the text
+
+module _ (signed : Bool) (v : ℕ) (e : isNegative signed v ≡ true) (fits : v < 2 ^ 32) where
+  negative-text : integerField (integer signed v) ≡ blank ∷ minus ∷ decimal (2 ^ 32 - v)
+  negative-text =
+      rw (integer-negative signed v e fits)
+      (ap (λ (n : ℕ). blank ∷ minus ∷ decimal n) (let back : suc (2 ^ 32 - suc v) ≡ 2 ^ 32 - v = omega (arith, fits) in back))
+
+  pub put-negative : {at e : ℕ} {m n : List ℕ} → Put (at + 2) (decimal (2 ^ 32 - v)) (set (set m at blank) (at + 1) minus) n e
+      → Put at (integerField (integer signed v)) m n e
+  put-negative {at} {m = m} put = rw negative-text (put-byte (put-byte (let next : at + 1 + 1 ≡ at + 2 = omega arith in rw next put)))
+
+  pub room-for-negative : (at : ℕ) (m : List ℕ) → at + length (integerField (integer signed v)) ≤ length m → at + 2 + length (decimal (2 ^ 32 - v)) ≤ length m
+  room-for-negative at m room = omega (arith, ap length negative-text)
+
+module _ (signed : Bool) (v : ℕ) (e : isNegative signed v ≡ false) where
+  plain-text : integerField (integer signed v) ≡ numberField v
+  plain-text = rw (integer-plain signed v e)
+
+  pub put-plain : {at e : ℕ} {m n : List ℕ} → Put at (numberField v) m n e → Put at (integerField (integer signed v)) m n e
+  put-plain put = rw plain-text put
+
+  pub room-for-plain : (at : ℕ) (m : List ℕ) → at + length (integerField (integer signed v)) ≤ length m → at + 1 + length (decimal v) ≤ length m
+  room-for-plain at m room = omega (arith, ap length plain-text)
+
+-- a blank, a minus and ten digits at the most
+pub integer-length : (signed : Bool) (v : ℕ) → v < 2 ^ 32 → length (integerField (integer signed v)) ≤ 12
+integer-length signed v fits =
+    ⊎-elim
+    (λ (e : isNegative signed v ≡ true). omega (arith, ap length (negative-text signed v e fits), decimal-within 9 (2 ^ 32 - v) (omega (arith, fits))))
+    (λ (e : isNegative signed v ≡ false). omega (arith, ap length (plain-text signed v e), decimal-within 9 v (omega (arith, fits))))
+    (true-or-false (isNegative signed v))
