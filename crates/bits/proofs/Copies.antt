@@ -13,7 +13,7 @@ use Rattle.memory.proofs.Parts.{part-whole, replaced-whole}
 use Rattle.bits.specs.declared.Order.{Order}
 use Rattle.bits.specs.declared.Packing.{Packing}
 use Rattle.bits.specs.declared.Unpacking.{Unpacking}
-use Rattle.bits.specs.Bits.{packed, unpacked}
+use Rattle.bits.specs.Bits.{packed, unpacked, extended}
 use Rattle.bits.specs.Frames.{isPlace, packing, frameAfter, unpacking}
 use Rattle.bits.specs.Slots.{position, InSlot}
 use Rattle.bits.proofs.Places.{position-twice}
@@ -54,10 +54,12 @@ module _ (o : Order) (start size : ℕ) (f z : List ℕ) {b : Bool} {at : ℕ} {
   front : s ≡ f ++ z
   front = rw (take-length f) at copied
 
-  pub unpacks : {v : ℕ} → v ≡ unpacked o (position o at) size (part 0 8 s) → Unpacking.Value v ≡ unpacking o start size f
-  unpacks e =
+  pub unpacks : (signed : Bool) {v : ℕ} → v ≡ extended signed size (unpacked o (position o at) size (part 0 8 s))
+      → Unpacking.Value v ≡ unpacking o signed start size f
+  unpacks signed e =
       let allowed = ok o start size (length f) test taken in
-      rw (allowed .holds, e, back, part-whole 8 s eight, front) (ap Unpacking.Value (unpacked-front o start size f z (allowed .fits)))
+      rw (allowed .holds, e, back, part-whole 8 s eight, front)
+      (ap (λ (n : ℕ). Unpacking.Value (extended signed size n)) (unpacked-front o start size f z (allowed .fits)))
 
   pub packs : (v : ℕ) {n : ℕ} {q after : List ℕ} → n ≡ length f → q ≡ replaced 0 (packed o (position o at) size v (part 0 8 s)) s
       → after ≡ take (length (take n q)) (take n q) ++ drop (length (take n q)) f → after ≡ frameAfter o start size v f

@@ -5,5 +5,6 @@ pub mod BigWalk
 pub mod Slots
 pub mod Xor
 pub mod RoundTrip
+pub mod Extension
 pub mod Words
 pub mod Copies

@@ -1,11 +1,14 @@
--- Document 01, "Bits", in its order: bit numbers, places, room, packing, unpacking.
+-- Document 01, "Bits", in its order: bit numbers, places, room, packing, unpacking; then W-207's signed messages.
 -- Assumes nothing.
-use mathlib.Core.Bool.{Bool, _&&_}
+use mathlib.Core.Bool.{Bool, true, false, _&&_}
 use mathlib.Core.List.{List, [], _∷_}
 use Prim.Native.Nat.{ℕ, zero, suc, _+_, _-_, _*_, _/_, _%_, _^_}
 use lib.Dec.{leb, ltb, eqb}
+use lib.IntN.{pos, negℤ}
 use lib.ListN.{length, getD}
+use lib.Signed.{leZ, ltZ}
 use Rattle.memory.specs.Search.{pick, anyBelow}
+use Rattle.memory.specs.Integers.{integer}
 use Rattle.bits.specs.declared.Order.{Order}
 use Rattle.bits.specs.declared.Order.the-variants.{Little, Big}
 
@@ -58,3 +61,18 @@ unpacked o start size f = number size (λ i. frameBit f (place o start i))
 -- the bits of its I-PDU that a message owns: those that its message bits go to
 unfoldable pub owns : Order → ℕ → ℕ → ℕ → Bool
 owns o start size p = anyBelow size (λ i. eqb (place o start i) p)
+
+-- ---- signed messages (W-207)
+
+-- a message of `size` bits as a value of 32: a signed one has its top bit copied upwards, another has zeros there
+unfoldable pub extended : Bool → ℕ → ℕ → ℕ
+extended signed size v = pick signed (number 32 (λ i. bit v (pick (ltb i size) i (size - 1)))) v
+
+-- what a stored value gives when it is unpacked: its low bits, extended
+unfoldable pub readBack : Bool → ℕ → ℕ → ℕ
+readBack signed size v = extended signed size (v % 2 ^ size)
+
+-- the value fits `size` bits: a signed one as the integer that it means
+unfoldable pub fitsBits : Bool → ℕ → ℕ → Bool
+fitsBits false size v = ltb v (2 ^ size)
+fitsBits true size v = leZ (negℤ (pos (2 ^ (size - 1)))) (integer true v) && ltZ (integer true v) (pos (2 ^ (size - 1)))

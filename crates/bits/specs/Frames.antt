@@ -9,7 +9,7 @@ use Rattle.memory.specs.Search.{pick}
 use Rattle.bits.specs.declared.Order.{Order}
 use Rattle.bits.specs.declared.Packing.{Packing}
 use Rattle.bits.specs.declared.Unpacking.{Unpacking}
-use Rattle.bits.specs.Bits.{room, packed, unpacked}
+use Rattle.bits.specs.Bits.{room, packed, unpacked, extended}
 
 -- the place of a message is one of those that document 01 speaks of
 unfoldable pub isPlace : Order → ℕ → ℕ → ℕ → Bool
@@ -21,6 +21,6 @@ packing o start size L = pick (isPlace o start size L) Packing.Packed Packing.Re
 abbrev pub frameAfter : Order → ℕ → ℕ → ℕ → List ℕ → List ℕ
 frameAfter o start size v f = pick (isPlace o start size (length f)) (packed o start size v f) f
 
-abbrev pub unpacking : Order → ℕ → ℕ → List ℕ → Unpacking
-unpacking o start size f =
-    pick (isPlace o start size (length f)) (Unpacking.Value (unpacked o start size f)) Unpacking.Refused
+abbrev pub unpacking : Order → Bool → ℕ → ℕ → List ℕ → Unpacking
+unpacking o signed start size f =
+    pick (isPlace o start size (length f)) (Unpacking.Value (extended signed size (unpacked o start size f))) Unpacking.Refused

@@ -1,4 +1,4 @@
-// Packing of message values into I-PDUs and back, under either byte order (document 01, "Bits").
+// Packing of message values into I-PDUs and back, under either byte order, signed or not (document 01, "Bits"; W-207).
 //
 // A frame is a slice of 1 to 8 bytes; a slot is 8 bytes of lent memory, in which the interaction layer keeps an I-PDU.
 // `pack`, `unpack` and `has_room` take anything and refuse what the rules leave out. `pack_slot` and `unpack_slot` are for
@@ -12,7 +12,7 @@ ghost use mathlib.Core.Path.{_≡_};
 ghost use Prim.Native.Nat.{ℕ, _+_, _≤_, _<_};
 ghost use lib.ListN.{length};
 ghost use Rattle.memory.specs.Bytes.{part, replaced};
-ghost use Rattle.bits.specs.Bits.{room, packed, unpacked};
+ghost use Rattle.bits.specs.Bits.{room, packed, unpacked, extended};
 ghost use Rattle.bits.specs.Frames.{isPlace, packing, frameAfter, unpacking};
 ghost use Rattle.bits.specs.Slots.{InSlot, position};
 
@@ -82,9 +82,10 @@ pub fn pack(frame: &mut [u8], order: Order, start: u32, size: BitSize, value: u3
     Packing::Packed
 }
 
-// The value whose bits stand at the places of a message in `frame`, or a refusal as for `pack`.
-pub fn unpack(frame: &[u8], order: Order, start: u32, size: BitSize) -> Unpacking
-    ensures { λ r. ⌜ r ≡ unpacking order start (size .0) (now (frame .entry)) ⌝ }
+// The value whose bits stand at the places of a message in `frame`, its top bit copied upwards where it is signed; or a
+// refusal as for `pack`.
+pub fn unpack(frame: &[u8], order: Order, signed: bool, start: u32, size: BitSize) -> Unpacking
+    ensures { λ r. ⌜ r ≡ unpacking order signed start (size .0) (now (frame .entry)) ⌝ }
 {
     if !is_place(order, start, size, frame.len()) {
         return Unpacking::Refused;
@@ -92,7 +93,7 @@ pub fn unpack(frame: &[u8], order: Order, start: u32, size: BitSize) -> Unpackin
     let at = position(order, start);
     let mut slot = [0u8; 8];
     bytes::copy(frame, &mut slot);
-    Unpacking::Value(unpack_slot(&slot, 0, order, at, size))
+    Unpacking::Value(unpack_slot(&slot, 0, order, signed, at, size))
 }
 
 // `pack` in the slot from byte `base` of `m` on, for a message that starts `at` bits along its order's walk. The bits
@@ -109,10 +110,18 @@ pub fn pack_slot(m: &mut [u8], base: usize, order: Order, at: u32, size: BitSize
 }
 
 // `unpack` of that slot.
-pub fn unpack_slot(m: &[u8], base: usize, order: Order, at: u32, size: BitSize) -> u32
+pub fn unpack_slot(
+    m: &[u8],
+    base: usize,
+    order: Order,
+    signed: bool,
+    at: u32,
+    size: BitSize,
+) -> u32
     requires { ⌜ (base + 8 ≤ length (now m)) × InSlot at (size .0) ⌝ }
-    ensures { λ r. ⌜ r ≡ unpacked order (position order at) (size .0) (part base 8 (now (m .entry))) ⌝ }
+    ensures { λ r. ⌜ r ≡ extended signed (size .0) (unpacked order (position order at) (size .0) (part base 8 (now (m .entry)))) ⌝ }
 {
     let bits = size.0;
-    word::field(word::turned(order, memory::read64(m, base)), at, bits)
+    let field = word::field(word::turned(order, memory::read64(m, base)), at, bits);
+    word::extended(signed, bits, field)
 }

@@ -2,6 +2,7 @@
 use super::Order;
 ghost use mathlib.Core.Path.{_≡_};
 ghost use Prim.Native.Nat.{_+_, _≤_, _<_, _^_};
+ghost use Rattle.bits.specs.Bits.{extended};
 ghost use Rattle.bits.specs.Slots.{bytesReversed, turned, withBitField, bitField};
 
 // The word with its bytes in the other order.
@@ -48,6 +49,18 @@ pub(crate) fn field(word: u64, at: u32, bits: u32) -> u32
     ensures { λ r. ⌜ r ≡ bitField word at bits ⌝ }
 {
     (word / power_of_two(at) % power_of_two(bits)) as u32
+}
+
+// A field of `bits` bits as a value of 32: a signed one has its top bit copied upwards.
+pub(crate) fn extended(signed: bool, bits: u32, field: u32) -> u32
+    requires { ⌜ (1 ≤ bits) × (bits ≤ 32) × (field < 2 ^ bits) ⌝ }
+    ensures { λ r. ⌜ r ≡ extended signed bits field ⌝ }
+{
+    let value = field as u64;
+    if !signed | (value < power_of_two(bits - 1)) {
+        return field;
+    }
+    (value + (0x100000000 - power_of_two(bits))) as u32
 }
 
 // The word with the low `bits` bits of `x` from bit `at` on: the bits of the field that differ are inverted.

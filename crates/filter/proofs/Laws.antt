@@ -110,9 +110,9 @@ pub own-remainder : (p n : ℕ) → n ≤ p - 1 → n % p ≡ n
 own-remainder zero n h = let e : n ≡ 0 = omega (arith, h) in rw e
 own-remainder (suc p) n h = let below : n < suc p = omega (arith, h) in mod-eq-of-lt below
 
-pub every-passes : (f : Filter) (p d new old n : ℕ) → f ≡ OneEveryN p d → CountFits f n → eqb n d ≡ passes f new old n
+pub every-passes : (signed : Bool) (f : Filter) (p d new old n : ℕ) → f ≡ OneEveryN p d → CountFits f n → eqb n d ≡ passes signed f new old n
 unfolding passes greatestCount
-every-passes f p d new old n e fits = let low : n ≤ p - 1 = rw e at (fits .low) in rw (e, own-remainder p n low)
+every-passes signed f p d new old n e fits = let low : n ≤ p - 1 = rw e at (fits .low) in rw (e, own-remainder p n low)
 
 -- ---- the filter with a period
 
@@ -129,9 +129,9 @@ next-in-turn p d n some =
     rw e (sym (sym (mod-add-mod n p 1) ∙ ap (λ (k : ℕ). k % p) last ∙ mod-self p)))
     (true-or-false (ltb (n % p) (p - 1)))
 
-pub passes-in-turn : (p d new old n : ℕ) → 0 < p → passes (OneEveryN p d) new old (n % p) ≡ eqb (n % p) d
+pub passes-in-turn : (signed : Bool) (p d new old n : ℕ) → 0 < p → passes signed (OneEveryN p d) new old (n % p) ≡ eqb (n % p) d
 unfolding passes
-passes-in-turn p d new old n some = rw (mod-eq-of-lt (mod-lt n some))
+passes-in-turn signed p d new old n some = rw (mod-eq-of-lt (mod-lt n some))
 
 pub right-period : (p d : ℕ) → filterRight 14 p d ≡ true → (0 < p) × (d < p)
 unfolding filterRight filterOf

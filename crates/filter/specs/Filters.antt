@@ -1,5 +1,5 @@
--- Document 01, "Filters", and W-203: the filters by number, what passes, how the count goes on, and the rules for a filter's constants in
--- a table. Assumes nothing.
+-- Document 01, "Filters", W-203 and W-207: the filters by number, what passes, how the count goes on, and the rules for a filter's constants
+-- in a table. Assumes nothing.
 use mathlib.Core.Bool.{Bool, true, false, not, _&&_}
 use mathlib.Core.List.{List, [], _∷_}
 use Prim.Native.Nat.{ℕ, _+_, _-_, _%_, _≤_, _<_}
@@ -7,28 +7,29 @@ use lib.Bits.{bitAnd}
 use lib.Dec.{leb, ltb, eqb}
 use lib.ListN.{getD}
 use Rattle.memory.specs.Search.{pick}
+use Rattle.memory.specs.Integers.{atMost, lessThan}
 use Rattle.filter.specs.declared.Filter.{Filter}
 use Rattle.filter.specs.declared.Filter.the-variants.{Always, Never, MaskedNewEqualsX, MaskedNewDiffersX, NewIsEqual, NewIsDifferent, MaskedNewEqualsMaskedOld}
 use Rattle.filter.specs.declared.Filter.the-variants.{MaskedNewDiffersMaskedOld, NewIsWithin, NewIsOutside, NewIsGreater, NewIsLessOrEqual, NewIsLess}
 use Rattle.filter.specs.declared.Filter.the-variants.{NewIsGreaterOrEqual, OneEveryN}
 
--- whether `new` passes, given old and the occurrence n
-unfoldable pub passes : Filter → ℕ → ℕ → ℕ → Bool
-passes Always new old n = true
-passes Never new old n = false
-passes (MaskedNewEqualsX mask x) new old n = eqb (bitAnd new mask) x
-passes (MaskedNewDiffersX mask x) new old n = not (eqb (bitAnd new mask) x)
-passes NewIsEqual new old n = eqb new old
-passes NewIsDifferent new old n = not (eqb new old)
-passes (MaskedNewEqualsMaskedOld mask) new old n = eqb (bitAnd new mask) (bitAnd old mask)
-passes (MaskedNewDiffersMaskedOld mask) new old n = not (eqb (bitAnd new mask) (bitAnd old mask))
-passes (NewIsWithin min max) new old n = leb min new && leb new max
-passes (NewIsOutside min max) new old n = not (leb min new && leb new max)
-passes NewIsGreater new old n = ltb old new
-passes NewIsLessOrEqual new old n = leb new old
-passes NewIsLess new old n = ltb new old
-passes NewIsGreaterOrEqual new old n = leb old new
-passes (OneEveryN period offset) new old n = eqb (n % period) offset
+-- whether `new` passes, given old and the occurrence n. Filters 8 to 13 compare a signed object's values, and constants, as signed (W-207)
+unfoldable pub passes : Bool → Filter → ℕ → ℕ → ℕ → Bool
+passes signed Always new old n = true
+passes signed Never new old n = false
+passes signed (MaskedNewEqualsX mask x) new old n = eqb (bitAnd new mask) x
+passes signed (MaskedNewDiffersX mask x) new old n = not (eqb (bitAnd new mask) x)
+passes signed NewIsEqual new old n = eqb new old
+passes signed NewIsDifferent new old n = not (eqb new old)
+passes signed (MaskedNewEqualsMaskedOld mask) new old n = eqb (bitAnd new mask) (bitAnd old mask)
+passes signed (MaskedNewDiffersMaskedOld mask) new old n = not (eqb (bitAnd new mask) (bitAnd old mask))
+passes signed (NewIsWithin min max) new old n = atMost signed min new && atMost signed new max
+passes signed (NewIsOutside min max) new old n = not (atMost signed min new && atMost signed new max)
+passes signed NewIsGreater new old n = lessThan signed old new
+passes signed NewIsLessOrEqual new old n = atMost signed new old
+passes signed NewIsLess new old n = lessThan signed new old
+passes signed NewIsGreaterOrEqual new old n = atMost signed old new
+passes signed (OneEveryN period offset) new old n = eqb (n % period) offset
 
 -- ---- W-203: the count of filterings runs from 0 to the period less one and returns to 0; with another filter it stays 0
 

@@ -1,7 +1,9 @@
-// Filters of message objects (document 01, "Filters"; document 001, table 1; W-203), under OSEK COM's names.
+// Filters of message objects (document 01, "Filters"; document 001, table 1; W-203, W-207), under OSEK COM's names.
+ghost use mathlib.Core.Bool.{_&&_};
 ghost use mathlib.Core.Path.{_≡_};
 ghost use Prim.Native.Nat.{_-_};
 ghost use lib.Dec.{leb};
+ghost use Rattle.memory.specs.Integers.{atMost};
 ghost use Rattle.filter.specs.Filters.{passes, greatestCount, nextCount, CountFits, filterOf, filterRight};
 
 // A filter with the constants that it needs.
@@ -79,10 +81,11 @@ pub fn filter_right(number: u32, first: u32, second: u32) -> bool
     (number <= 13) & (first == 0) & (second == 0)
 }
 
-// Whether `new` passes, by old and the count. With filter 14 a count in its range is below the period and needs no remainder.
-pub fn passes(filter: Filter, new: u32, old: u32, count: u8) -> bool
+// Whether `new` passes, by old and the count, for an object that is signed or not. With filter 14 a count in its range is below
+// the period and needs no remainder.
+pub fn passes(signed: bool, filter: Filter, new: u32, old: u32, count: u8) -> bool
     requires { ⌜ CountFits filter count ⌝ }
-    ensures { λ r. ⌜ r ≡ passes filter new old count ⌝ }
+    ensures { λ r. ⌜ r ≡ passes signed filter new old count ⌝ }
 {
     match filter {
         Filter::Always => true,
@@ -93,14 +96,20 @@ pub fn passes(filter: Filter, new: u32, old: u32, count: u8) -> bool
         Filter::NewIsDifferent => new != old,
         Filter::MaskedNewEqualsMaskedOld { mask } => new & mask == old & mask,
         Filter::MaskedNewDiffersMaskedOld { mask } => new & mask != old & mask,
-        Filter::NewIsWithin { min, max } => (min <= new) & (new <= max),
-        Filter::NewIsOutside { min, max } => !((min <= new) & (new <= max)),
-        Filter::NewIsGreater => new > old,
-        Filter::NewIsLessOrEqual => new <= old,
-        Filter::NewIsLess => new < old,
-        Filter::NewIsGreaterOrEqual => new >= old,
+        Filter::NewIsWithin { min, max } => within(signed, min, new, max),
+        Filter::NewIsOutside { min, max } => !within(signed, min, new, max),
+        Filter::NewIsGreater => memory::less_than(signed, old, new),
+        Filter::NewIsLessOrEqual => memory::at_most(signed, new, old),
+        Filter::NewIsLess => memory::less_than(signed, new, old),
+        Filter::NewIsGreaterOrEqual => memory::at_most(signed, old, new),
         Filter::OneEveryN { period: _, offset } => count as u32 == offset,
     }
+}
+
+fn within(signed: bool, min: u32, new: u32, max: u32) -> bool
+    ensures { λ r. ⌜ r ≡ (atMost signed min new && atMost signed new max) ⌝ }
+{
+    memory::at_most(signed, min, new) & memory::at_most(signed, new, max)
 }
 
 // The count after one more filtering: it runs to the period less one and returns to 0.

@@ -1,17 +1,17 @@
 -- The check accepts a table exactly where it has no wrong record (`accepted-right`, `right-accepted`), and what such a table
 -- gives to its users: every I-PDU number, sending object and bit place in range, every filter usable.
 -- Assumes nothing.
-use mathlib.Core.Bool.{true, false, not, _&&_}
+use mathlib.Core.Bool.{true, false, not, _&&_, _||_}
 use mathlib.Core.List.{List}
 use mathlib.Core.Logic.{⊎-elim}
 use mathlib.Core.Path.{_≡_, refl, ap}
-use Prim.Native.Nat.{ℕ, zero, suc, _≤_, _<_, zero-le}
+use Prim.Native.Nat.{ℕ, zero, suc, _%_, _≤_, _<_, zero-le}
 use native.Mathlib.Omega.{arith}
-use borrow.Author.Tests.{ltb-true, ltb-false, eqb-true, le-ltb, not-false}
+use borrow.Author.Tests.{ltb-true, ltb-false, eqb-true, eq-eqb, le-ltb, not-false}
 use lib.Dec.{ltb, eqb}
 use Rattle.memory.specs.Search.{least}
 use Rattle.memory.proofs.Search.{least-none, least-before, sum-more}
-use Rattle.memory.proofs.Tests.{and-split, or-split, true-or-false}
+use Rattle.memory.proofs.Tests.{and-split, or-split, or-cases, true-or-false}
 use Rattle.bits.specs.Bits.{room}
 use Rattle.bits.specs.Slots.{position, InSlot}
 use Rattle.filter.specs.Filters.{greatestCount}
@@ -106,6 +106,10 @@ module _ (t : List ℕ) where
 
 -- ---- what a right table gives
 
+-- an order of an object outside any I-PDU is little
+whole-order : (n : ℕ) → (eqb n 0 || eqb n 2) ≡ true → n % 2 ≡ 0
+whole-order n e = ⊎-elim (λ h. omega (arith, eqb-true n 0 h)) (λ h. omega (arith, eqb-true n 2 h)) (or-cases (eqb n 0) (eqb n 2) e)
+
 -- an object's number of I-PDU and sending object, its bits, its depth and the counts of its filter
 pub record Usable (t : List ℕ) (c : Counts) (r : ObjectRecord) : Type 0 where
   pub start : r .start < 64
@@ -143,14 +147,15 @@ usable t c right i h =
         let away : withoutIpdu r ≡ false = rw some in
         in-ipdu t c (right .ipdus) r facts (or-right (withoutIpdu r) (withinIpdu r (references t c r)) away (facts .places))
 
-    -- start 0, 32 bits, little
+    -- start 0, 32 bits, little, signed or not
     unplaced : withoutIpdu r ≡ true → (r .start < 64) × InSlot (position (orderOf (r .order)) (r .start)) (r .size)
     unplaced e =
-        let last = and-split (eqb (r .ipdu) 255 && eqb (r .start) 0 && eqb (r .size) 32) (eqb (r .order) 0) e in
+        let last = and-split (eqb (r .ipdu) 255 && eqb (r .start) 0 && eqb (r .size) 32) (eqb (r .order) 0 || eqb (r .order) 2) e in
         let mid = and-split (eqb (r .ipdu) 255 && eqb (r .start) 0) (eqb (r .size) 32) (last .0) in
         let start : r .start ≡ 0 = eqb-true _ _ (and-split (eqb (r .ipdu) 255) (eqb (r .start) 0) (mid .0) .1) in
         let size : r .size ≡ 32 = eqb-true _ _ (mid .1) in
-        rw (start, size, last .1) (omega arith, record { some = omega arith; most = omega arith; inside = unfold position in omega arith })
+        let little : eqb (r .order % 2) 0 ≡ true = eq-eqb (r .order % 2) 0 (whole-order (r .order) (last .1)) in
+        rw (start, size, little) (omega arith, record { some = omega arith; most = omega arith; inside = unfold position in omega arith })
 
     place : (r .start < 64) × InSlot (position (orderOf (r .order)) (r .start)) (r .size)
     place =

@@ -45,7 +45,7 @@ object-facts r x e =
 pub record ByteFacts (r : ObjectRecord) : Type 0 where
   pub least : 1 ≤ r .size
   pub most : r .size ≤ 32
-  pub orders : r .order ≤ 1
+  pub orders : r .order ≤ 3
   pub transfers : r .transfer ≤ 1
   pub depths : r .depth ≤ 16
   pub above-filter : r .«zero_9» ≡ 0
@@ -56,7 +56,7 @@ pub byte-facts : (r : ObjectRecord) → bytesRight r ≡ true → ByteFacts r
 byte-facts r e =
     let all =
     each-true (leb 1 (r .size))
-    (leb (r .size) 32 ∷ leb (r .order) 1 ∷ leb (r .transfer) 1 ∷ leb (r .depth) 16
+    (leb (r .size) 32 ∷ leb (r .order) 3 ∷ leb (r .transfer) 1 ∷ leb (r .depth) 16
     ∷ eqb (r .«zero_9») 0 ∷ eqb (r .«zero_10») 0 ∷ eqb (r .«zero_24») 0 ∷ []) e in
     search (leb-true, eqb-true)
 

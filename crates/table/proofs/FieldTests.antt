@@ -75,34 +75,47 @@ module _ (r : ObjectRecord) (n : ℕ) {x : ℕ} (size : x ≡ r .size) where
   size-past h = rw (le-leb 1 (r .size) (omega arith), lt-leb (r .size) 32 (omega arith))
 
   module _ (least : 1 ≤ x) (most : x ≤ 32) {y : ℕ} (order : y ≡ r .order) where
-    pub no-order : (y ≡ 0 → ⊥) → (y ≡ 1 → ⊥) → false ≡ placeField r n
+    pub no-order : 3 < y → false ≡ placeField r n
     unfolding placeField
-    no-order other another =
-        rw (le-leb 1 (r .size) (omega arith), le-leb (r .size) 32 (omega arith), lt-leb (r .order) 1 (omega (arith, other, another)))
+    no-order past = rw (le-leb 1 (r .size) (omega arith), le-leb (r .size) 32 (omega arith), lt-leb (r .order) 3 (omega arith))
 
-    module _ {z : ℕ} (start : z ≡ r .start) where
-      pub little-room : y ≡ 0 → leb (z + x) (8 * n) ≡ placeField r n
+    module _ (known : y ≤ 3) {z : ℕ} (start : z ≡ r .start) where
+      pub little-room : y % 2 ≡ 0 → leb (z + x) (8 * n) ≡ placeField r n
       unfolding placeField room
-      little-room zero =
-          let little : r .order ≡ 0 = omega arith in
-          rw (le-leb 1 (r .size) (omega arith), le-leb (r .size) 32 (omega arith), little, start, size)
+      little-room even =
+          let little : eqb (r .order % 2) 0 ≡ true = eq-eqb (r .order % 2) 0 (rw order at even) in
+          rw (le-leb 1 (r .size) (omega arith), le-leb (r .size) 32 (omega arith), le-leb (r .order) 3 (omega arith), little, start, size)
 
-      pub outside : y ≡ 1 → 8 * n ≤ z → false ≡ placeField r n
-      unfolding placeField room
-      outside one past =
-          let big : r .order ≡ 1 = omega arith in
-          rw (le-leb 1 (r .size) (omega arith), le-leb (r .size) 32 (omega arith), big, le-ltb (r .start) (8 * n) (omega arith))
+      module _ (odd : y % 2 ≡ 0 → ⊥) where
+        big : eqb (r .order % 2) 0 ≡ false
+        big = ne-eqb (r .order % 2) 0 (λ e. odd (rw order e))
 
-      pub big-room : {p : ℕ} → y ≡ 1 → n ≤ 8 → z < 8 * n → p ≡ position Big z → leb (p + x) 64 ≡ placeField r n
-      unfolding placeField room position
-      big-room {p} one few inside at =
-          let big : r .order ≡ 1 = omega arith in
-          let same : leb (p + x) 64 ≡ leb (r .size) (8 * (r .start / 8 + 1) - r .start % 8) =
-          ⊎-elim
-          (λ (h : 64 < p + x). lt-leb (p + x) 64 h ∙ sym (lt-leb (r .size) (8 * (r .start / 8 + 1) - r .start % 8) (omega (arith, at, inside, few, h))))
-          (λ (h : p + x ≤ 64). le-leb (p + x) 64 h ∙ sym (le-leb (r .size) (8 * (r .start / 8 + 1) - r .start % 8) (omega (arith, at, inside, few, h))))
-          (lt-or-le 64 (p + x)) in
-          rw (le-leb 1 (r .size) (omega arith), le-leb (r .size) 32 (omega arith), big, lt-ltb (r .start) (8 * n) (omega arith)) same
+        pub outside : 8 * n ≤ z → false ≡ placeField r n
+        unfolding placeField room
+        outside past =
+            rw (
+              le-leb 1 (r .size) (omega arith),
+              le-leb (r .size) 32 (omega arith),
+              le-leb (r .order) 3 (omega arith),
+              big,
+              le-ltb (r .start) (8 * n) (omega arith),
+            )
+
+        pub big-room : {p : ℕ} → n ≤ 8 → z < 8 * n → p ≡ position Big z → leb (p + x) 64 ≡ placeField r n
+        unfolding placeField room position
+        big-room {p} few inside at =
+            let same : leb (p + x) 64 ≡ leb (r .size) (8 * (r .start / 8 + 1) - r .start % 8) =
+            ⊎-elim
+            (λ (h : 64 < p + x). lt-leb (p + x) 64 h ∙ sym (lt-leb (r .size) (8 * (r .start / 8 + 1) - r .start % 8) (omega (arith, at, inside, few, h))))
+            (λ (h : p + x ≤ 64). le-leb (p + x) 64 h ∙ sym (le-leb (r .size) (8 * (r .start / 8 + 1) - r .start % 8) (omega (arith, at, inside, few, h))))
+            (lt-or-le 64 (p + x)) in
+            rw (
+              le-leb 1 (r .size) (omega arith),
+              le-leb (r .size) 32 (omega arith),
+              le-leb (r .order) 3 (omega arith),
+              big,
+              lt-ltb (r .start) (8 * n) (omega arith),
+            ) same
 
 pub position-fits : {p x z n : ℕ} → p ≡ position Big z → z < 8 * n → n ≤ 8 → x ≤ 32 → p + x < 2 ^ 32
 position-fits {z = z} at inside short few = omega (arith, position-lt Big z (omega arith))

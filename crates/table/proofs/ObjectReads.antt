@@ -17,8 +17,5 @@ module _ {x : ℕ} (a : ℕ) (t : List ℕ) where
   pub constants-read : x ≡ numberAt 8 (a + 16) t → x ≡ objectRecordAt a t .first + 4294967296 * objectRecordAt a t .second
   constants-read e = omega (arith, number-split 4 4 (a + 16) (a + 20) t (omega arith))
 
-  pub size-read : x ≡ numberAt 2 (a + 4) t → x ≡ objectRecordAt a t .size + 256 * objectRecordAt a t .order
-  size-read e = omega (arith, number-split 1 1 (a + 4) (a + 5) t (omega arith))
-
   pub transfer-read : x ≡ numberAt 2 (a + 6) t → x ≡ objectRecordAt a t .transfer + 256 * objectRecordAt a t .depth
   transfer-read e = omega (arith, number-split 1 1 (a + 6) (a + 7) t (omega arith))

@@ -3,10 +3,10 @@
 use mathlib.Core.Bool.{Bool, true, false, not, _&&_, _||_}
 use mathlib.Core.List.{List, [], _∷_}
 use mathlib.Core.Logic.{_⊎_, inl, inr, ⊎-elim}
-use mathlib.Core.Path.{_≡_, sym, _∙_}
+use mathlib.Core.Path.{_≡_, refl, sym, _∙_}
 use Prim.Native.Nat.{ℕ, _+_, _*_, _≤_, _<_}
 use native.Mathlib.Omega.{arith}
-use borrow.Author.Tests.{eqb-true, leb-true, eq-eqb, ne-eqb, le-leb, lt-ltb, le-ltb}
+use borrow.Author.Tests.{eqb-true, leb-true, not-true, not-false, eq-eqb, ne-eqb, le-leb, lt-ltb, le-ltb}
 use lib.Dec.{leb, ltb, eqb}
 use Rattle.memory.specs.Search.{pick}
 use Rattle.memory.proofs.Tests.{and-split, each-true, or-cases, true-or-false, true-not-false, tested-true, tested-false, never-true}
@@ -34,14 +34,14 @@ filters r e =
 record PlaceFacts (r : ObjectRecord) (n : ℕ) : Type 0 where
   least : 1 ≤ r .size
   most : r .size ≤ 32
-  orders : r .order ≤ 1
+  orders : r .order ≤ 3
   rooms : room (orderOf (r .order)) (r .start) (r .size) n ≡ true
 
 places : (r : ObjectRecord) (n : ℕ) → placeField r n ≡ true → PlaceFacts r n
 unfolding placeField
 places r n e =
     let all =
-    each-true (leb 1 (r .size)) (leb (r .size) 32 ∷ leb (r .order) 1 ∷ room (orderOf (r .order)) (r .start) (r .size) n ∷ []) e in
+    each-true (leb 1 (r .size)) (leb (r .size) 32 ∷ leb (r .order) 3 ∷ room (orderOf (r .order)) (r .start) (r .size) n ∷ []) e in
     search leb-true
 
 sent : (r : ObjectRecord) → transferAndDepth r sending ≡ true → (r .transfer ≤ 1) × (r .depth ≡ 0)
@@ -52,12 +52,24 @@ received : (r : ObjectRecord) → transferAndDepth r receiving ≡ true → (r .
 unfolding transferAndDepth
 received r e = let both = and-split (eqb (r .transfer) 0) (leb (r .depth) 16) e in (eqb-true _ _ (both .0), leb-true _ _ (both .1))
 
+-- two tests that are made as `(y != a) & (y != b)`
+neither : (a b : Bool) → (not a && not b) ≡ true → (a || b) ≡ false
+neither true b e = let z : false ≡ true = e in absurd (true-not-false z refl)
+neither false b e = not-true b e
+
+either : (a b : Bool) → (not a && not b) ≡ false → (a || b) ≡ true
+either true b e = refl
+either false b e = not-false b e
+
+whole-limit : (n : ℕ) → (eqb n 0 || eqb n 2) ≡ true → n ≤ 3
+whole-limit n e = ⊎-elim (λ h. omega (arith, eqb-true n 0 h)) (λ h. omega (arith, eqb-true n 2 h)) (or-cases (eqb n 0) (eqb n 2) e)
+
 -- it lies outside any I-PDU
 record Outside (r : ObjectRecord) : Type 0 where
   ipdu : r .ipdu ≡ absent
   start : r .start ≡ 0
   size : r .size ≡ 32
-  order : r .order ≡ 0
+  order : (eqb (r .order) 0 || eqb (r .order) 2) ≡ true
 
 module _ (r : ObjectRecord) (x : References) where
   refused : (objectRight r x ≡ true → ⊥) → false ≡ objectRight r x
@@ -66,7 +78,7 @@ module _ (r : ObjectRecord) (x : References) where
   bytes : objectRight r x ≡ true → ByteFacts r
   bytes f = byte-facts r (object-facts r x f .bytes)
 
-  right : Filtered r → 1 ≤ r .size → r .size ≤ 32 → r .order ≤ 1 → r .transfer ≤ 1 → r .depth ≤ 16
+  right : Filtered r → 1 ≤ r .size → r .size ≤ 32 → r .order ≤ 3 → r .transfer ≤ 1 → r .depth ≤ 16
       → (sendObject r || receiveObject r) ≡ true → (withoutIpdu r || withinIpdu r x) ≡ true → senderRight r x ≡ true → true ≡ objectRight r x
   unfolding objectRight
   right f least most order transfer depth kind place sender =
@@ -74,7 +86,7 @@ module _ (r : ObjectRecord) (x : References) where
       rw (
         le-leb 1 (r .size) least,
         le-leb (r .size) 32 most,
-        le-leb (r .order) 1 order,
+        le-leb (r .order) 3 order,
         le-leb (r .transfer) 1 transfer,
         le-leb (r .depth) 16 depth,
         eq-eqb (r .«zero_9») 0 (field .0),
@@ -167,7 +179,7 @@ module _ (t : List ℕ) (c : Counts) (r : ObjectRecord) (shape : Shape t c) (ipd
       refused r (references t c r) (λ f.
       let fields = bytes r (references t c r) f in
       let all : placeField r y ≡ true =
-      rw (le-leb 1 (r .size) (fields .least), le-leb (r .size) 32 (fields .most), le-leb (r .order) 1 (fields .orders), length) (inside f .1) in
+      rw (le-leb 1 (r .size) (fields .least), le-leb (r .size) 32 (fields .most), le-leb (r .order) 3 (fields .orders), length) (inside f .1) in
       true-not-false all (tested-false e wrong))
 
   module _ (f : Filtered r) {d z : ℕ} (direction : d ≡ ipduRecord t k .direction) (kind : z ≡ r .kind) (same : d ≡ z)
@@ -211,7 +223,7 @@ module _ (t : List ℕ) (c : Counts) (r : ObjectRecord) (high : c .ipdus ≤ r .
       let facts = object-facts r (references t c r) f in
       ⊎-elim
       (λ e.
-      let all = each-true (eqb (r .ipdu) absent) (eqb (r .start) 0 ∷ eqb (r .size) 32 ∷ eqb (r .order) 0 ∷ []) e in
+      let all = each-true (eqb (r .ipdu) absent) (eqb (r .start) 0 ∷ eqb (r .size) 32 ∷ (eqb (r .order) 0 || eqb (r .order) 2) ∷ []) e in
       search eqb-true)
       (λ e.
       let none : eqb 0 (r .kind) ≡ true = and-split (eqb 0 (r .kind)) _ (rw (le-ltb (r .ipdu) (c .ipdus) high) at e) .0 in
@@ -225,9 +237,12 @@ module _ (t : List ℕ) (c : Counts) (r : ObjectRecord) (high : c .ipdus ≤ r .
   pub start-some : {y : ℕ} → y ≡ r .start → (y ≡ 0 → ⊥) → false ≡ objectRight r (references t c r)
   start-some e some = refused r (references t c r) (λ f. some (e ∙ outside f .start))
 
-  -- size and order, read together
-  pub not-whole : {y : ℕ} → y ≡ r .size + 256 * r .order → (y ≡ 32 → ⊥) → false ≡ objectRight r (references t c r)
-  not-whole e other = refused r (references t c r) (λ f. other (omega (arith, e, outside f .size, outside f .order)))
+  pub not-whole : {y : ℕ} → y ≡ r .size → (y ≡ 32 → ⊥) → false ≡ objectRight r (references t c r)
+  not-whole e other = refused r (references t c r) (λ f. other (e ∙ outside f .size))
+
+  pub not-little : {y : ℕ} → y ≡ r .order → (not (eqb y 0) && not (eqb y 2)) ≡ true → false ≡ objectRight r (references t c r)
+  not-little {y} e other =
+      refused r (references t c r) (λ f. true-not-false (rw e (outside f .order)) (neither (eqb y 0) (eqb y 2) other))
 
   module _ {k : ℕ} (kind : k ≡ r .kind) where
     pub sent-from-sender : {y : ℕ} → k ≡ sending → y ≡ r .sender → (y ≡ absent → ⊥) → false ≡ objectRight r (references t c r)
@@ -244,14 +259,14 @@ module _ (t : List ℕ) (c : Counts) (r : ObjectRecord) (high : c .ipdus ≤ r .
     transfer-wrong e wrong = refused r (references t c r) (λ f. true-not-false (transfer-as-kind r (references t c r) (sym kind) f) (tested-false e wrong))
 
     module _ (f : Filtered r) {i : ℕ} (ipdu : i ≡ r .ipdu) (none : i ≡ absent) {b : ℕ} (start : b ≡ r .start) (zero : b ≡ 0)
-        {y : ℕ} (whole : y ≡ r .size + 256 * r .order) (all : y ≡ 32) {s : ℕ} (sender : s ≡ r .sender) where
+        {x : ℕ} (size : x ≡ r .size) (whole : x ≡ 32) {y : ℕ} (order : y ≡ r .order) (little : (not (eqb y 0) && not (eqb y 2)) ≡ false)
+        {s : ℕ} (sender : s ≡ r .sender) where
       accepted-outside : r .transfer ≤ 1 → r .depth ≤ 16 → (sendObject r || receiveObject r) ≡ true → senderRight r (references t c r) ≡ true
           → true ≡ objectRight r (references t c r)
       accepted-outside transfer depth kinds from =
-          let size : r .size ≡ 32 = omega arith in
-          let order : r .order ≡ 0 = omega arith in
-          right r (references t c r) f (omega arith) (omega arith) (omega arith) transfer depth kinds
-          (rw (eq-eqb (r .ipdu) absent (omega arith), eq-eqb (r .start) 0 (omega arith), size, order)) from
+          let known : (eqb (r .order) 0 || eqb (r .order) 2) ≡ true = rw order at (either (eqb y 0) (eqb y 2) little) in
+          right r (references t c r) f (omega arith) (omega arith) (whole-limit (r .order) known) transfer depth kinds
+          (rw (eq-eqb (r .ipdu) absent (omega arith), eq-eqb (r .start) 0 (omega arith), eq-eqb (r .size) 32 (omega arith), known)) from
 
       pub sent-outside : {u : Bool} → k ≡ sending → s ≡ absent → u ≡ transferAndDepth r k → u ≡ objectRight r (references t c r)
       sent-outside {u} one alone e =

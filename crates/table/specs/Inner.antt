@@ -36,7 +36,7 @@ pub record Filtered (r : ObjectRecord) : Type 0 where
 
 -- size, order and start, in an I-PDU of this length
 unfoldable pub placeField : ObjectRecord → ℕ → Bool
-placeField r length = leb 1 (r .size) && leb (r .size) 32 && leb (r .order) 1 && room (orderOf (r .order)) (r .start) (r .size) length
+placeField r length = leb 1 (r .size) && leb (r .size) 32 && leb (r .order) 3 && room (orderOf (r .order)) (r .start) (r .size) length
 
 -- transfer property and depth of an object of this kind
 unfoldable pub transferAndDepth : ObjectRecord → ℕ → Bool

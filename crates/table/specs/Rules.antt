@@ -1,8 +1,8 @@
--- Document 01, "The table" and the table parts of "Filters": when the header and a record are right by themselves.
+-- Document 01, "The table" and the table parts of "Filters", and W-207's orders: when the header and a record are right by themselves.
 -- Assumes nothing.
 use mathlib.Core.Bool.{Bool, not, _&&_, _||_}
 use mathlib.Core.List.{List}
-use Prim.Native.Nat.{ℕ}
+use Prim.Native.Nat.{ℕ, _%_}
 use lib.Dec.{leb, ltb, eqb}
 use lib.ListN.{length}
 use Rattle.memory.specs.Bytes.{numberAt}
@@ -62,10 +62,13 @@ ipduBytes r = leb 1 (r .length) && leb (r .length) 8 && leb (r .mode) 2 && eqb (
 unfoldable pub ipduRight : IpduRecord → Bool
 ipduRight r = ipduBytes r && (eqb (r .direction) sending && sendIpdu r || eqb (r .direction) receiving && receiveIpdu r)
 
--- ---- an object record: kind 1 send, 2 receive; I-PDU or sending object 255 for none; order 0 little, 1 big
+-- ---- an object record: kind 1 send, 2 receive; I-PDU or sending object 255 for none; order 0 little, 1 big, 2 signed little, 3 signed big
 
 abbrev pub orderOf : ℕ → Order
-orderOf n = pick (eqb n 0) Little Big
+orderOf n = pick (eqb (n % 2) 0) Little Big
+
+abbrev pub signedOf : ℕ → Bool
+signedOf n = leb 2 n
 
 -- its filter, with the constants that it needs
 abbrev pub recordFilter : ObjectRecord → Filter
@@ -88,9 +91,9 @@ sendObject r = eqb (r .kind) sending && eqb (r .sender) absent && eqb (r .depth)
 abbrev pub receiveObject : ObjectRecord → Bool
 receiveObject r = eqb (r .kind) receiving && eqb (r .transfer) 0 && (eqb (r .ipdu) absent || eqb (r .sender) absent)
 
--- an object outside any I-PDU: all 32 bits from bit 0 on, little
+-- an object outside any I-PDU: all 32 bits from bit 0 on, little or signed little
 abbrev pub withoutIpdu : ObjectRecord → Bool
-withoutIpdu r = eqb (r .ipdu) absent && eqb (r .start) 0 && eqb (r .size) 32 && eqb (r .order) 0
+withoutIpdu r = eqb (r .ipdu) absent && eqb (r .start) 0 && eqb (r .size) 32 && (eqb (r .order) 0 || eqb (r .order) 2)
 
 -- the I-PDU is one of the table's, of the object's direction, and has room for all its bits
 abbrev pub withinIpdu : ObjectRecord → References → Bool
@@ -105,7 +108,7 @@ abbrev pub bytesRight : ObjectRecord → Bool
 bytesRight r =
     leb 1 (r .size)
     && leb (r .size) 32
-    && leb (r .order) 1
+    && leb (r .order) 3
     && leb (r .transfer) 1
     && leb (r .depth) 16
     && eqb (r .«zero_9») 0

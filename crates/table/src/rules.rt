@@ -120,11 +120,11 @@ fn receive_ipdu(t: &[u8], a: usize) -> bool
     memory::read16(t, a + 10) != 0
 }
 
-// The byte order that byte 5 of an object record stands for.
+// The byte order that byte 5 of an object record stands for; from 2 on it is that of a signed object.
 pub fn order_of(order: u32) -> Order
     ensures { λ r. ⌜ r ≡ orderOf order ⌝ }
 {
-    if order == 0 {
+    if order % 2 == 0 {
         Order::Little
     } else {
         Order::Big
@@ -201,11 +201,11 @@ fn place_right(t: &[u8], a: usize, bytes: ByteLength) -> bool
     let start = memory::read8(t, a + 3);
     let order = memory::read8(t, a + 5);
     let end = 8 * bytes.0;
-    if order == 0 {
-        return start + bits <= end;
-    }
-    if order != 1 {
+    if 3 < order {
         return false;
+    }
+    if order % 2 == 0 {
+        return start + bits <= end;
     }
     if end <= start {
         return false;
@@ -240,7 +240,11 @@ fn without_ipdu(t: &[u8], c: Counts, a: usize) -> bool
     if memory::read8(t, a + 3) != 0 {
         return false;
     }
-    if memory::read16(t, a + 4) != 32 {
+    if memory::read8(t, a + 4) != 32 {
+        return false;
+    }
+    let order = memory::read8(t, a + 5);
+    if (order != 0) & (order != 2) {
         return false;
     }
     let kind = memory::read8(t, a);

@@ -15,9 +15,9 @@ place-right-spec =
     (λ c. search needs) (λ c κs. search needs)
     (λ c. search needs) (λ c κs. search needs)
     (λ c. search needs)
+    (λ c. search (needs, no-order))
     (λ c. search needs)
     (λ c. search (needs, little-room))
-    (λ c. search (needs, no-order))
     (λ c. search (needs, outside))
     (λ c κs. search needs)
     (λ c.

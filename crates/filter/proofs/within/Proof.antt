@@ -1,0 +1,8 @@
+-- `filter::within`: both comparisons are the definition's.
+-- Assumes nothing.
+use borrow.Author.Needs.{needs}
+use Rattle.filter.proofs.within.Statement.{statement}
+use Rattle.filter.proofs.within.Tie as tie
+
+pub within-spec : {M : Type 1} → statement M
+within-spec = tie.close (tie.spec (λ c κs. search needs) (λ c κs. search needs) (λ c. rw (c .before .at-most .ensures, c .at-most2 .ensures)))
