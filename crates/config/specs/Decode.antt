@@ -1,5 +1,6 @@
--- What a record of a right table means: document 01's fields as structs; and the length of an I-PDU.
+-- What a record of a right table means: document 01's fields as structs; the length of an I-PDU, and whether an object is signed (W-207).
 -- Assumes nothing.
+use mathlib.Core.Bool.{Bool, _&&_}
 use mathlib.Core.List.{List}
 use Prim.Native.Nat.{ℕ}
 use lib.Dec.{ltb, eqb}
@@ -17,8 +18,9 @@ use Rattle.table.specs.declared.IpduRecord.{IpduRecord}
 use Rattle.table.specs.declared.ObjectRecord.{ObjectRecord}
 use Rattle.table.specs.declared.Verdict.{Verdict}
 use Rattle.table.specs.declared.Verdict.the-variants.{Accepted, WrongHeader, WrongIpdu, WrongObject}
-use Rattle.table.specs.Records.{ipduRecord}
-use Rattle.table.specs.Rules.{orderOf, recordFilter}
+use Rattle.table.specs.declared.Counts.{Counts}
+use Rattle.table.specs.Records.{ipduRecord, objectRecord}
+use Rattle.table.specs.Rules.{orderOf, signedOf, recordFilter}
 use Rattle.table.specs.Check.{check}
 
 -- direction and kind: 1 send, 2 receive
@@ -54,6 +56,7 @@ objectOf r =
       ipdu = record { 0 = r .ipdu };
       sender = record { 0 = r .sender };
       order = orderOf (r .order);
+      signed = signedOf (r .order);
       at = position (orderOf (r .order)) (r .start);
       size = record { 0 = r .size };
       transfer = transferOf (r .transfer);
@@ -71,3 +74,7 @@ lengthBy (WrongObject i) t k = 0
 
 unfoldable pub ipduLength : List ℕ → ℕ → ℕ
 ipduLength t k = lengthBy (check t) t k
+
+-- there is an object of this number, and it is signed
+unfoldable pub isSigned : List ℕ → Counts → ℕ → Bool
+isSigned t c i = ltb i (c .objects) && signedOf (objectRecord t (c .ipdus) i .order)

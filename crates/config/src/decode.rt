@@ -18,7 +18,7 @@ ghost use lib.ListN.{length};
 ghost use Rattle.table.specs.Records.{objectBase, ipduRecord, objectRecord};
 ghost use Rattle.table.specs.declared.Verdict.the-variants.{Accepted};
 ghost use Rattle.table.specs.Check.{Shape};
-ghost use Rattle.config.specs.Decode.{directionOf, modeOf, transferOf, ipduOf, objectOf, lengthBy, ipduLength};
+ghost use Rattle.config.specs.Decode.{directionOf, modeOf, transferOf, ipduOf, objectOf, lengthBy, ipduLength, isSigned};
 
 // An I-PDU of the table.
 pub fn decode_ipdu(t: &[u8], number: IpduNumber) -> Ipdu
@@ -63,6 +63,20 @@ fn length_in(t: &[u8], c: Counts, number: IpduNumber) -> ByteLength
     ByteLength(0)
 }
 
+// Whether there is an object of this number, and it is signed.
+pub fn is_signed(t: &[u8], c: Counts, number: ObjectNumber) -> bool
+    requires { ⌜ Shape (now t) c ⌝ }
+    ensures { λ r. ⌜ r ≡ isSigned (now (t .entry)) c (number .0) ⌝ }
+{
+    let n = c.objects;
+    let i = number.0;
+    if n <= i {
+        return false;
+    }
+    let r = table::object_record(t, c.ipdus, number);
+    2 <= r.order
+}
+
 fn ipdu_of(r: IpduRecord) -> Ipdu
     ensures { λ p. ⌜ p ≡ ipduOf r ⌝ }
 {
@@ -88,6 +102,7 @@ fn object_of(r: ObjectRecord) -> Object
         ipdu: IpduNumber(r.ipdu),
         sender: ObjectNumber(r.sender),
         order: order,
+        signed: 2 <= r.order,
         at: bits::position(order, r.start),
         size: BitSize(r.size),
         transfer: transfer_of(r.transfer),

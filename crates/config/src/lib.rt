@@ -1,9 +1,11 @@
-// The configuration that a table describes: what the records of an accepted table mean, and the length of an I-PDU.
+// The configuration that a table describes: what the records of an accepted table mean, the length of an I-PDU, and whether an
+// object is signed.
 mod decode;
 
 pub use decode::decode_ipdu;
 pub use decode::decode_object;
 pub use decode::ipdu_length;
+pub use decode::is_signed;
 
 // Whether an I-PDU or an object is sent or received.
 pub enum Direction {
@@ -36,13 +38,14 @@ pub struct Ipdu {
     pub first_deadline: u32,
 }
 
-// A message object. An I-PDU or sending object of 255 is none. `at` is how far along its order's walk the start bit stands;
-// a depth of 0 is unqueued.
+// A message object. An I-PDU or sending object of 255 is none. A signed one's values are two's complement. `at` is how far
+// along its order's walk the start bit stands; a depth of 0 is unqueued.
 pub struct Object {
     pub direction: Direction,
     pub ipdu: table::IpduNumber,
     pub sender: table::ObjectNumber,
     pub order: bits::Order,
+    pub signed: bool,
     pub at: u32,
     pub size: bits::BitSize,
     pub transfer: Transfer,

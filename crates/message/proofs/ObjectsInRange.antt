@@ -5,7 +5,6 @@ use mathlib.Core.List.{List}
 use mathlib.Core.Logic.{inl, inr, ⊎-elim}
 use mathlib.Core.Path.{_≡_, _∙_}
 use Prim.Native.Nat.{ℕ, _+_, _-_, _^_, _≤_, _<_}
-use native.Mathlib.Nat.{zero-lt-suc, lt-of-lt-of-le}
 use native.Mathlib.Omega.{arith}
 use borrow.Author.Tests.{ltb-true}
 use lib.Bits.{bitOr, or-lt}
@@ -16,8 +15,9 @@ use Rattle.memory.specs.Search.{pick}
 use Rattle.memory.proofs.Parts.{bytesOf-length, bytesOf-bytes, part-length, replaced-length}
 use Rattle.memory.proofs.Search.{picked}
 use Rattle.memory.proofs.Tests.{true-or-false}
-use Rattle.bits.specs.Bits.{packed}
+use Rattle.bits.specs.Bits.{packed, unpacked}
 use Rattle.bits.proofs.RoundTrip.{packed-length, packed-bytes, unpacked-lt}
+use Rattle.bits.proofs.Extension.{extended-lt}
 use Rattle.filter.specs.Filters.{CountFits}
 use Rattle.filter.proofs.Laws.{next-low}
 use Rattle.table.specs.declared.Counts.{Counts}
@@ -255,6 +255,6 @@ pub unpack-lt : (t : List ℕ) (c : Counts) (m : List ℕ) → Ready t c m → (
 unfolding unpack
 unpack-lt t c m ready i h =
     let o = object t c i in
-    let low = ready-placed t c m ready i h .slot .most in
-    lt-of-lt-of-le (unpacked-lt (o .order) (startBit o) (o .size .0) (part (slotAt (o .ipdu .0)) 8 m))
-    (native.Mathlib.Nat.pow-le-pow-right (zero-lt-suc 1) low)
+    let slot = ready-placed t c m ready i h .slot in
+    let f = part (slotAt (o .ipdu .0)) 8 m in
+    extended-lt (o .size .0) (unpacked (o .order) (startBit o) (o .size .0) f) (slot .some) (slot .most) (unpacked-lt (o .order) (startBit o) (o .size .0) f) (o .signed)

@@ -9,7 +9,7 @@ use lib.Dec.{ltb, eqb}
 use lib.ListN.{length}
 use Rattle.memory.specs.Bytes.{bytesOf, part, replaced}
 use Rattle.memory.specs.Search.{pick}
-use Rattle.bits.specs.Bits.{packed, unpacked}
+use Rattle.bits.specs.Bits.{packed, unpacked, extended}
 use Rattle.bits.specs.Slots.{position, InSlot}
 use Rattle.filter.specs.Filters.{passes}
 use Rattle.table.specs.declared.Counts.{Counts}
@@ -53,7 +53,7 @@ marked mark s = withMarks (bitOr (s .marks) mark) s
 -- ---- filters: old becomes a value that passed; every filtering moves the count on, by the filter's rule
 
 abbrev pub passesFilter : Object → ℕ → ObjectState → Bool
-passesFilter o v s = passes (o .filter) v (s .old) (s .occurrence)
+passesFilter o v s = passes (o .signed) (o .filter) v (s .old) (s .occurrence)
 
 unfoldable pub afterFilter : Bool → Object → ℕ → ObjectState → ObjectState
 afterFilter passed o v s = counted (o .filter) (pick passed (withOld v s) s)
@@ -95,9 +95,9 @@ pack o v m =
     pick (eqb (o .ipdu .0) absent) m
     (replaced (slotAt (o .ipdu .0)) (packed (o .order) (startBit o) (o .size .0) v (part (slotAt (o .ipdu .0)) 8 m)) m)
 
--- the value unpacked from the I-PDU
+-- the value unpacked from the I-PDU; a signed one has its top bit copied upwards (W-207)
 unfoldable pub unpack : Object → List ℕ → ℕ
-unpack o m = unpacked (o .order) (startBit o) (o .size .0) (part (slotAt (o .ipdu .0)) 8 m)
+unpack o m = extended (o .signed) (o .size .0) (unpacked (o .order) (startBit o) (o .size .0) (part (slotAt (o .ipdu .0)) 8 m))
 
 -- ---- initialise: a send object's value is packed; a receive object has it as its value, an empty queue and no overflow. In both it
 -- becomes old, and nothing is counted.

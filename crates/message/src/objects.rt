@@ -25,7 +25,7 @@ pub fn deliver(m: &mut [u8], number: ObjectNumber, o: Object, v: u32)
 {
     let s = state::object_state(m, number);
     let f = o.filter;
-    let passed = filter::passes(f, v, s.old, s.occurrence);
+    let passed = filter::passes(o.signed, f, v, s.old, s.occurrence);
     queue::enqueue(
         m,
         passed & (s.count < o.depth),
@@ -44,7 +44,7 @@ pub fn filter_sent(m: &mut [u8], number: ObjectNumber, o: Object, v: u32) -> boo
 {
     let s = state::object_state(m, number);
     let f = o.filter;
-    let passed = filter::passes(f, v, s.old, s.occurrence);
+    let passed = filter::passes(o.signed, f, v, s.old, s.occurrence);
     state::set_object_state(m, number, after_filter(passed, o, v, s));
     passed
 }
@@ -70,7 +70,7 @@ pub fn unpack(m: &[u8], o: Object) -> u32
 {
     let k = o.ipdu.0 as usize;
     let order = o.order;
-    bits::unpack_slot(m, SLOTS + 8 * k, order, o.at, o.size)
+    bits::unpack_slot(m, SLOTS + 8 * k, order, o.signed, o.at, o.size)
 }
 
 // Sets the value of an object, with no filter and no request.

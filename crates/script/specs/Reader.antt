@@ -15,7 +15,7 @@ use Rattle.script.specs.declared.Reader.{Reader}
 use Rattle.script.specs.declared.Reader.the-variants.{Naming, First, Second, Bytes, TooMany}
 use Rattle.script.specs.declared.Reading.{Reading}
 use Rattle.script.specs.declared.Reading.the-variants.{Unreadable}
-use Rattle.script.specs.Reading.{numeralWith, hexValue, alone, ofObject, ofTwo, ofBytes, ifNumber}
+use Rattle.script.specs.Reading.{numeralWith, hexValue, alone, ofObject, ofTwo, ofNegative, ofBytes, ifInteger, ifNumber}
 
 -- ---- the name: up to eight letters in `head`, up to eight more in `tail`; 17 letters stand for too many
 
@@ -93,7 +93,7 @@ nextFrom r (b ∷ line) = nextFrom (next r b) line
 unfoldable pub commandOf : Reader → Reading
 commandOf (Naming n) = alone (isNamed n)
 commandOf (First n f) = ifNumber f (ofObject (isNamed n))
-commandOf (Second n f s) = ifNumber f (λ i. ifNumber s (ofTwo (isNamed n) i))
+commandOf (Second n f s) = ifNumber f (λ i. ifInteger s (ofTwo (isNamed n) i) (ofNegative (isNamed n) i))
 commandOf (Bytes n f s h) = ifNumber f (λ k. ifNumber s (ofBytes (isNamed n) (wholeBytes h) k))
 commandOf TooMany = Unreadable
 

@@ -1,4 +1,4 @@
--- W-201: the line of each command, without its line feed. Characters are ASCII codes.
+-- W-201: the line of each command, without its line feed; W-207: where values are written as signed. Characters are ASCII codes.
 -- Assumes nothing.
 use mathlib.Core.Bool.{Bool, true, false}
 use mathlib.Core.List.{List, [], _∷_, _++_}
@@ -6,6 +6,7 @@ use Prim.Native.Nat.{ℕ, _+_, _/_, _%_}
 use lib.Dec.{ltb}
 use Rattle.memory.specs.Search.{pick}
 use Rattle.memory.specs.Texts.{blank, numberField}
+use Rattle.memory.specs.Integers.{integer, integerField}
 use Rattle.script.specs.Characters.{codes}
 use Rattle.script.specs.declared.Ask.the-variants.{Receive, Status, Marks, ClearMarks}
 use Rattle.script.specs.declared.Command.{Command}
@@ -15,6 +16,11 @@ use Rattle.script.specs.declared.Command.the-variants.{Start, Stop, Send
 abbrev pub numberFields : List ℕ → List ℕ
 numberFields [] = []
 numberFields (n ∷ ns) = numberField n ++ numberFields ns
+
+-- values as they stand, or signed: as the integers that their 32 bits mean
+abbrev pub valueFields : Bool → List ℕ → List ℕ
+valueFields signed [] = []
+valueFields signed (v ∷ vs) = integerField (integer signed v) ++ valueFields signed vs
 
 -- ---- bytes in upper-case hex; for no bytes there is no field, and no blank before it
 
@@ -93,15 +99,28 @@ goodNumber good = pick good 1 0
 abbrev pub numbersOf : Command → List ℕ
 numbersOf Start = []
 numbersOf Stop = []
-numbersOf (Send i v) = i .0 ∷ v ∷ []
-numbersOf (Initialise i v) = i .0 ∷ v ∷ []
+numbersOf (Send i v) = i .0 ∷ []
+numbersOf (Initialise i v) = i .0 ∷ []
 numbersOf (Object ask i) = i .0 ∷ []
 numbersOf (Periodic on) = []
 numbersOf (Indication k good) = k .0 ∷ goodNumber good ∷ []
 numbersOf (Confirm k good) = k .0 ∷ goodNumber good ∷ []
 numbersOf Tick = []
 
--- ---- the line: the name, then the numbers, then the bytes of an indication
+-- ---- the value of a send or an initialise
 
-abbrev pub text : Command → List ℕ → List ℕ
-text command bytes = nameOf command ++ numberFields (numbersOf command) ++ hexField bytes
+abbrev pub valuesOf : Command → List ℕ
+valuesOf Start = []
+valuesOf Stop = []
+valuesOf (Send i v) = v ∷ []
+valuesOf (Initialise i v) = v ∷ []
+valuesOf (Object ask i) = []
+valuesOf (Periodic on) = []
+valuesOf (Indication k good) = []
+valuesOf (Confirm k good) = []
+valuesOf Tick = []
+
+-- ---- the line: the name, then the numbers, then the value, then the bytes of an indication
+
+abbrev pub text : Bool → Command → List ℕ → List ℕ
+text signed command bytes = nameOf command ++ numberFields (numbersOf command) ++ valueFields signed (valuesOf command) ++ hexField bytes

@@ -53,10 +53,12 @@ pub struct Name {
     pub tail: u64,
 }
 
-// A decimal field so far.
+// A decimal field so far; `Negative` is what stands behind a minus.
 pub enum Numeral {
     Nothing,
     Number(u32),
+    Minus,
+    Negative(u32),
     Wrong,
 }
 

@@ -10,12 +10,15 @@ ghost use mathlib.Core.Path.{_≡_};
 ghost use Prim.Native.Nat.{_≤_, _<_};
 ghost use lib.ListN.{length};
 ghost use lib.Seq.{sets};
-ghost use Rattle.script.specs.Reading.{withDigit, numeralWith, hexValue};
+ghost use Rattle.script.specs.Reading.{withDigit, withMinus, numeralWith, hexValue};
 ghost use Rattle.script.specs.declared.Reader.the-variants.{First, Second, Bytes};
 ghost use Rattle.script.specs.Reader.{shifted, withLetter, oneMore, hexWith, wholeBytes, nextField, joined, next, fresh, commandOf};
 ghost use Rattle.script.specs.Reader.{frameAs, frameOfHex, frameOf, bytesDown};
 
 const BLANK: u8 = 32;
+
+// How far a negative value of 32 bits can be below 0.
+const MOST_BELOW: u64 = 0x80000000;
 
 // A line of which nothing was read.
 pub fn fresh() -> Reader
@@ -99,7 +102,20 @@ fn numeral_with(n: Numeral, b: u8) -> Numeral
     if (48 <= b) & (b <= 57) {
         return with_digit(n, (b - 48) as u32);
     }
+    if b == b'-' {
+        return with_minus(n);
+    }
     Numeral::Wrong
+}
+
+// A minus stands before all digits.
+fn with_minus(n: Numeral) -> Numeral
+    ensures { λ r. ⌜ r ≡ withMinus n ⌝ }
+{
+    match n {
+        Numeral::Nothing => Numeral::Minus,
+        _ => Numeral::Wrong,
+    }
 }
 
 // The numeral with one digit more behind it.
@@ -113,6 +129,19 @@ fn with_digit(n: Numeral, d: u32) -> Numeral
             let longer = 10 * (above as u64) + d as u64;
             if (above != 0) & (longer < 0x100000000) {
                 return Numeral::Number(longer as u32);
+            }
+            Numeral::Wrong
+        }
+        Numeral::Minus => {
+            if d == 0 {
+                return Numeral::Wrong;
+            }
+            Numeral::Negative(d)
+        }
+        Numeral::Negative(above) => {
+            let longer = 10 * (above as u64) + d as u64;
+            if longer <= MOST_BELOW {
+                return Numeral::Negative(longer as u32);
             }
             Numeral::Wrong
         }
@@ -174,9 +203,8 @@ fn with_number(n: Name, f: Numeral) -> Reading
     ensures { λ r. ⌜ r ≡ commandOf (First n f) ⌝ }
 {
     match f {
-        Numeral::Nothing => Reading::Unreadable,
         Numeral::Number(i) => names::of_object(n, i),
-        Numeral::Wrong => Reading::Unreadable,
+        _ => Reading::Unreadable,
     }
 }
 
@@ -184,13 +212,12 @@ fn with_numbers(n: Name, f: Numeral, s: Numeral) -> Reading
     ensures { λ r. ⌜ r ≡ commandOf (Second n f s) ⌝ }
 {
     match f {
-        Numeral::Nothing => Reading::Unreadable,
         Numeral::Number(i) => match s {
-            Numeral::Nothing => Reading::Unreadable,
             Numeral::Number(v) => names::of_two(n, i, v),
-            Numeral::Wrong => Reading::Unreadable,
+            Numeral::Negative(v) => names::of_negative(n, i, v),
+            _ => Reading::Unreadable,
         },
-        Numeral::Wrong => Reading::Unreadable,
+        _ => Reading::Unreadable,
     }
 }
 
@@ -198,13 +225,11 @@ fn with_bytes(n: Name, f: Numeral, s: Numeral, h: Hex) -> Reading
     ensures { λ r. ⌜ r ≡ commandOf (Bytes n f s h) ⌝ }
 {
     match f {
-        Numeral::Nothing => Reading::Unreadable,
         Numeral::Number(k) => match s {
-            Numeral::Nothing => Reading::Unreadable,
             Numeral::Number(good) => names::of_bytes(n, whole_bytes(h), k, good),
-            Numeral::Wrong => Reading::Unreadable,
+            _ => Reading::Unreadable,
         },
-        Numeral::Wrong => Reading::Unreadable,
+        _ => Reading::Unreadable,
     }
 }
 

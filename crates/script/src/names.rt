@@ -8,7 +8,7 @@ use table::ObjectNumber;
 ghost use mathlib.Core.Bool.{_&&_};
 ghost use mathlib.Core.Path.{_≡_};
 ghost use lib.Dec.{eqb};
-ghost use Rattle.script.specs.Reading.{alone, ofObject, ofTwo, ofIpdu, ofBytes};
+ghost use Rattle.script.specs.Reading.{alone, ofObject, ofValue, ofTwo, ofNegative, ofIpdu, ofBytes};
 ghost use Rattle.script.specs.Reader.{isNamed};
 
 // A line that is a name alone.
@@ -56,13 +56,32 @@ pub(crate) fn of_object(n: Name, i: u32) -> Reading
 pub(crate) fn of_two(n: Name, i: u32, v: u32) -> Reading
     ensures { λ r. ⌜ r ≡ ofTwo (isNamed n) i v ⌝ }
 {
+    of_value(n, i, v, of_ipdu(n, i, v))
+}
+
+// A name, a number, and one that is `below` less than 0 and means its 32 bits.
+pub(crate) fn of_negative(n: Name, i: u32, below: u32) -> Reading
+    ensures { λ r. ⌜ r ≡ ofNegative (isNamed n) i below ⌝ }
+{
+    of_value(
+        n,
+        i,
+        std::num::wrapping_sub_u32(0, below),
+        Reading::Unreadable,
+    )
+}
+
+// A send or an initialise of this value, or else another reading.
+fn of_value(n: Name, i: u32, v: u32, other: Reading) -> Reading
+    ensures { λ r. ⌜ r ≡ ofValue (isNamed n) i v other ⌝ }
+{
     if named(n, 4, 0x73656e64, 0) {
         return Reading::Readable(Command::Send(ObjectNumber(i), v));
     }
     if named(n, 10, 0x696e697469616c69, 0x7365) {
         return Reading::Readable(Command::Initialise(ObjectNumber(i), v));
     }
-    of_ipdu(n, i, v)
+    other
 }
 
 // A name, an I-PDU's number and good or not.

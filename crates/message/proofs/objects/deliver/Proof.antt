@@ -1,14 +1,12 @@
 -- `message::objects::deliver`: the value enters the queue at a place inside memory, then the row is written.
 -- Assumes nothing.
 use borrow.Author.Needs.{needs}
-use Rattle.message.specs.Objects.{deliver}
 use Rattle.queue.proofs.RingPlaces.{held-row, held-row-after, held-queue, held-head, held-count, newest-room}
-use Rattle.message.proofs.ObjectSteps.{count-read}
+use Rattle.message.proofs.ObjectSteps.{count-read, delivers}
 use Rattle.message.proofs.objects.deliver.Statement.{statement}
 use Rattle.message.proofs.objects.deliver.Tie as tie
 
 pub deliver-spec : {M : Type 1} → statement M
-unfolding deliver
 deliver-spec =
     tie.close
     (tie.spec
@@ -19,4 +17,4 @@ deliver-spec =
     (λ c κs. search (needs, count-read))
     (λ c κs. search (needs, held-row-after))
     (λ c. search needs)
-    (λ c. cc))
+    (λ c. search (needs, delivers)))
