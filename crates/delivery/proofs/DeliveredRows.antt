@@ -10,7 +10,7 @@ use lib.Dec.{eqb}
 use Rattle.memory.specs.Bytes.{part}
 use Rattle.memory.specs.Search.{pick, fold}
 use Rattle.memory.proofs.Search.{picked, fold-keeps, fold-view, fold-at}
-use Rattle.bits.specs.Bits.{unpacked}
+use Rattle.bits.specs.Bits.{unpacked, extended}
 use Rattle.table.specs.declared.Counts.{Counts}
 use Rattle.table.specs.Records.{mostIpdus, objectRecord}
 use Rattle.config.specs.Decode.{objectOf}
@@ -121,7 +121,7 @@ frame-row t c m ready k j few low e =
     same : unpack (object t c j) m
         ≡ unpack (object t c j) (fold j (deliverTurn t c (λ i. eqb (objectRecord t (c .ipdus) i .ipdu) k) (λ i l. unpack (object t c i) l)) m)
     same =
-        ap (λ (f : List ℕ). unpacked (object t c j .order) (startBit (object t c j)) (object t c j .size .0) f)
+        ap (λ (f : List ℕ). extended (object t c j .signed) (object t c j .size .0) (unpacked (object t c j .order) (startBit (object t c j)) (object t c j .size .0) f))
         (sym (turns-slot t c m ready (λ i. eqb (objectRecord t (c .ipdus) i .ipdu) k) (λ i l. unpack (object t c i) l) (λ i b l r. unpack-lt t c l r i b) j (omega (arith, low))
         (objectRecord t (c .ipdus) j .ipdu) (omega (arith, e, few))))
 

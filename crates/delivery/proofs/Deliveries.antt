@@ -11,7 +11,7 @@ use lib.Dec.{eqb}
 use Rattle.memory.specs.Search.{fold}
 use Rattle.memory.proofs.Search.{picked, sum-more, fold-view, fold-at}
 use Rattle.memory.proofs.Tests.{lt-or-le, true-or-false}
-use Rattle.bits.specs.Bits.{unpacked}
+use Rattle.bits.specs.Bits.{unpacked, extended}
 use Rattle.table.specs.declared.Counts.{Counts}
 use Rattle.config.specs.declared.Object.{Object}
 use Rattle.table.specs.Records.{mostIpdus, objectRecord}
@@ -135,7 +135,7 @@ module _ (t : List ℕ) (c : Counts) (m : List ℕ) (ready : Ready t c m) where
       waiting-turns t c m ready (λ i. eqb (objectRecord t (c .ipdus) i .ipdu) k) (λ i l. unpack (object t c i) l) (λ i b l r. unpack-lt t c l r i b) j low
       (λ e i b l r.
       let own = eqb-true (objectRecord t (c .ipdus) j .ipdu) k e in
-      ap (λ (f : List ℕ). unpacked (object t c j .order) (startBit (object t c j)) (object t c j .size .0) f)
+      ap (λ (f : List ℕ). extended (object t c j .signed) (object t c j .size .0) (unpacked (object t c j .order) (startBit (object t c j)) (object t c j .size .0) f))
       (deliver-slot t c l r i b (unpack (object t c i) l) (objectRecord t (c .ipdus) j .ipdu) (omega (arith, own, few))))
 
   -- an object of the I-PDU has what the one delivery of its bits leaves

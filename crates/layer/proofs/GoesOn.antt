@@ -12,7 +12,7 @@ use Rattle.memory.proofs.Tests.{and-false, true-not-false}
 use Rattle.table.specs.declared.Counts.{Counts}
 use Rattle.table.specs.declared.Verdict.the-variants.{Accepted}
 use Rattle.table.specs.Records.{counts}
-use Rattle.table.specs.Check.{check}
+use Rattle.table.specs.Check.{Shape, check}
 use Rattle.table.proofs.Accepted.{accepted-right}
 use Rattle.state.specs.Layout.{memorySize, runningAt}
 use Rattle.state.specs.Ranges.{Ready}
@@ -76,6 +76,9 @@ module _ {t m : List ℕ} (goes : Goes t m) where
 
   pub goes-ready : {c : Counts} → c ≡ counts t → Ready t c (workingMemory m)
   goes-ready same = rw same (open-here .ready)
+
+  pub goes-shape : {c : Counts} → c ≡ counts t → Shape t c
+  goes-shape same = goes-ready same .right .shape
 
 -- ---- what a call gives
 

@@ -1,5 +1,5 @@
--- What a crate over the layer is promised: whether a call goes on, and of one object its receives, status and marks and the values that wait
--- for it. The promises are the laws of proofs/Promises; a crate that cites these needs to open no definition of this file.
+-- What a crate over the layer is promised: whether a call goes on, and of one object its receives, status and marks, the values that wait
+-- for it and whether they are signed. The promises are the laws of proofs/Promises; a crate that cites these needs to open no definition of this file.
 -- Assumes nothing.
 use mathlib.Core.Bool.{Bool, true, not, _&&_}
 use mathlib.Core.List.{List}
@@ -8,6 +8,7 @@ use Prim.Native.Nat.{ℕ}
 use lib.Dec.{eqb}
 use Rattle.memory.specs.Bytes.{Bytes}
 use Rattle.table.specs.Records.{receiving, counts, objectRecord}
+use Rattle.config.specs.Decode.{isSigned}
 use Rattle.queue.specs.Queues.{waiting}
 use Rattle.calls.specs.Answers.{Outcome, numberOf, valueOf}
 use Rattle.calls.specs.Calls.{isObject}
@@ -73,3 +74,7 @@ queued t i = isObject t (counts t) receiving i && not (eqb (objectRecord t (coun
 -- the values that wait for it, the oldest first
 unfoldable pub waitingFor : List ℕ → ℕ → List ℕ → List ℕ
 waitingFor t i m = waiting (objectRecord t (counts t .ipdus) i .depth) i (workingMemory m)
+
+-- its values are signed (W-207)
+unfoldable pub readsSigned : List ℕ → ℕ → Bool
+readsSigned t i = isSigned t (counts t) i

@@ -12,6 +12,7 @@ pub use objects::clear_marks_admitted;
 pub use objects::marks_admitted;
 pub use objects::receive_admitted;
 pub use objects::refusal;
+pub use objects::signed_admitted;
 pub use objects::status_admitted;
 pub use starting::start;
 pub use state::AREA_SIZE;

@@ -7,7 +7,7 @@ use state::MEMORY_SIZE;
 use table::ObjectNumber;
 ghost use mathlib.Core.Path.{_≡_};
 ghost use Rattle.calls.specs.Answers.{numberOf, valueOf};
-ghost use Rattle.layer.specs.Promises.{refusal, Goes, reply, replied, received, statusRead, marksRead, marksCleared};
+ghost use Rattle.layer.specs.Promises.{refusal, Goes, reply, replied, received, statusRead, marksRead, marksCleared, readsSigned};
 
 // The number that refuses a call before it looks at its own numbers, or 0; `fits` is whether what else it is lent is right.
 pub fn refusal(t: &[u8], m: &[u8], fits: bool) -> u32
@@ -54,6 +54,15 @@ pub fn clear_marks_admitted(t: &[u8], m: &mut [u8], object: u32) -> Reply
 {
     let c = table::header_counts(t);
     reply_of(object_calls::clear_marks(t, c, &mut m[..MEMORY_SIZE], ObjectNumber(object)))
+}
+
+// Whether an object's values are signed.
+pub fn signed_admitted(t: &[u8], m: &[u8], object: u32) -> bool
+    requires { ⌜ Goes (now t) (now m) ⌝ }
+    ensures { λ r. ⌜ r ≡ readsSigned (now (t .entry)) object ⌝ }
+{
+    let c = table::header_counts(t);
+    config::is_signed(t, c, ObjectNumber(object))
 }
 
 // An answer as its number and value.
