@@ -12,7 +12,7 @@ use lib.IntN.{ℤ, pos, negsuc}
 use lib.ListN.{length, set}
 use lib.Signed.{leZ, ltZ}
 use Rattle.memory.specs.Texts.{Put, blank, decimal, numberField}
-use Rattle.memory.specs.Integers.{isNegative, integer, atMost, lessThan, rank, minus, integerField}
+use Rattle.memory.specs.Integers.{isNegative, integer, atMost, lessThan, rank, minus, integerText, integerField}
 use Rattle.memory.proofs.Tests.{lt-or-le, and-split, true-or-false}
 use Rattle.memory.proofs.Decimals.{decimal-within}
 use Rattle.memory.proofs.Puts.{put-byte}
@@ -95,10 +95,10 @@ not-at-most signed a b = not-leZ (integer signed a) (integer signed b)
 -- ---- the text
 
 module _ (signed : Bool) (v : ℕ) (e : isNegative signed v ≡ true) (fits : v < 2 ^ 32) where
-  negative-text : integerField (integer signed v) ≡ blank ∷ minus ∷ decimal (2 ^ 32 - v)
+  pub negative-text : integerText (integer signed v) ≡ minus ∷ decimal (2 ^ 32 - v)
   negative-text =
       rw (integer-negative signed v e fits)
-      (ap (λ (n : ℕ). blank ∷ minus ∷ decimal n) (let back : suc (2 ^ 32 - suc v) ≡ 2 ^ 32 - v = omega (arith, fits) in back))
+      (ap (λ (n : ℕ). minus ∷ decimal n) (let back : suc (2 ^ 32 - suc v) ≡ 2 ^ 32 - v = omega (arith, fits) in back))
 
   pub put-negative : {at e : ℕ} {m n : List ℕ} → Put (at + 2) (decimal (2 ^ 32 - v)) (set (set m at blank) (at + 1) minus) n e
       → Put at (integerField (integer signed v)) m n e
@@ -108,7 +108,7 @@ module _ (signed : Bool) (v : ℕ) (e : isNegative signed v ≡ true) (fits : v 
   room-for-negative at m room = omega (arith, ap length negative-text)
 
 module _ (signed : Bool) (v : ℕ) (e : isNegative signed v ≡ false) where
-  plain-text : integerField (integer signed v) ≡ numberField v
+  pub plain-text : integerText (integer signed v) ≡ decimal v
   plain-text = rw (integer-plain signed v e)
 
   pub put-plain : {at e : ℕ} {m n : List ℕ} → Put at (numberField v) m n e → Put at (integerField (integer signed v)) m n e

@@ -8,7 +8,9 @@ use Prim.Native.Nat.{ℕ, zero, suc, _/_, _%_, _≤_, _<_}
 use native.Mathlib.Omega.{arith}
 use borrow.Author.Tests.{lt-ltb, le-ltb, eqb-true, ne-eqb, not-true}
 use lib.Dec.{eqb}
+use lib.IntN.{ℤ, pos, negsuc}
 use lib.Seq.{append-snoc}
+use Rattle.memory.specs.Integers.{integerText}
 use Rattle.memory.specs.Texts.{blank, digitOf, decimalDigits, decimal}
 use Rattle.memory.proofs.Tests.{lt-or-le, and-split, true-or-false}
 use Rattle.script.specs.Reading.{Fields, one, two, three, four, tooMany, into, fieldsFrom, fieldsOf}
@@ -43,6 +45,10 @@ digits-word (suc k) n =
 pub decimal-word : (n : ℕ) → isWord (decimal n) ≡ true
 unfolding decimal
 decimal-word n = digits-word 20 n
+
+pub integer-word : (z : ℤ) → isWord (integerText z) ≡ true
+integer-word (pos n) = decimal-word n
+integer-word (negsuc n) = decimal-word (suc n)
 
 hex-digit-high : (d : ℕ) → 48 ≤ hexDigitOf d
 hex-digit-high d =

@@ -3,7 +3,7 @@
 use mathlib.Core.Bool.{Bool, true, false}
 use mathlib.Core.List.{List, [], _∷_, _++_}
 use mathlib.Core.Logic.{⊎-elim}
-use mathlib.Core.Path.{_≡_, refl, ap, fun-ext}
+use mathlib.Core.Path.{_≡_, refl, ap, ap₂, fun-ext}
 use Prim.Native.Nat.{ℕ, suc, _≤_, _<_}
 use native.Mathlib.Omega.{arith}
 use native.Mathlib.Nat.{zero-lt-suc}
@@ -21,12 +21,13 @@ use Rattle.script.proofs.ReadingCases.{fourth-bytes, bytes-pairs}
 use Rattle.script.specs.declared.Command.{Command}
 use Rattle.script.specs.declared.Frame.{Frame}
 use Rattle.script.specs.declared.Name.{Name}
+use Rattle.script.specs.declared.Numeral.the-variants.{Nothing}
 use Rattle.script.specs.declared.Reader.{Reader}
 use Rattle.script.specs.declared.Reader.the-variants.{Naming, First, Second, TooMany}
 use Rattle.script.specs.declared.Reading.the-variants.{Readable}
 use Rattle.script.specs.Reader.{withLetter, noName, nameFrom, isNamed, noDigits, hexWith, hexFrom, next, fresh, nextFrom, commandOf, frameAs, frameOf, frameBytes}
-use Rattle.script.specs.Reading.{Fields, one, two, three, four, tooMany, into, fieldsFrom, fieldsOf, numeral, isBytes, alone, ofObject, ofTwo, ofBytes}
-use Rattle.script.specs.Reading.{ifNumber, same, reading, readLine, bytesIn}
+use Rattle.script.specs.Reading.{Fields, one, two, three, four, tooMany, into, fieldsFrom, fieldsOf, numeral, isBytes, alone, ofObject, ofTwo, ofNegative, ofBytes}
+use Rattle.script.specs.Reading.{ifInteger, ifNumber, same, reading, readLine, bytesIn}
 use Rattle.script.specs.Text.{startName, stopName, sendName, initialiseName, receiveName, statusName, marksName, clearMarksName}
 use Rattle.script.specs.Text.{startPeriodicName, stopPeriodicName, indicationName, confirmName, tickName}
 
@@ -58,8 +59,8 @@ reader-into f b = ⊎-elim (ends f) (joins f) (true-or-false (eqb b blank))
 
     joins : (f : Fields) → eqb b blank ≡ false → next (reader f) b ≡ reader (into f b)
     joins (one n) e = rw (e, name-last n b)
-    joins (two n f) e = rw (e, numeral-last f b)
-    joins (three n f s) e = rw (e, numeral-last s b)
+    joins (two n f) e = rw (e, numeral-last Nothing f b)
+    joins (three n f s) e = rw (e, numeral-last Nothing s b)
     joins (four n f s h) e = rw (e, hex-last h b)
     joins tooMany e = rw e
 
@@ -116,6 +117,9 @@ module _ (is js : List ℕ → Bool) (agree : (w : List ℕ) → areLetters 16 w
   two-agree : (i v : ℕ) → ofTwo is i v ≡ ofTwo js i v
   two-agree i v = rw (agree sendName refl, agree initialiseName refl, agree indicationName refl, agree confirmName refl)
 
+  negative-agree : (i n : ℕ) → ofNegative is i n ≡ ofNegative js i n
+  negative-agree i n = rw (agree sendName refl, agree initialiseName refl)
+
   bytes-agree : (whole : Bool) (k good : ℕ) → ofBytes is whole k good ≡ ofBytes js whole k good
   bytes-agree whole k good = rw (agree indicationName refl)
 
@@ -126,7 +130,9 @@ reader-reads (two n f) bs =
     ap (ifNumber (numeral f)) (fun-ext (object-agree (isNamed (nameFrom noName n)) (same n) (λ w e. named-same n w bs e)))
 reader-reads (three n f s) bs =
     ap (ifNumber (numeral f)) (fun-ext (λ i.
-    ap (ifNumber (numeral s)) (fun-ext (two-agree (isNamed (nameFrom noName n)) (same n) (λ w e. named-same n w bs e) i))))
+    ap₂ (ifInteger (numeral s))
+    (fun-ext (two-agree (isNamed (nameFrom noName n)) (same n) (λ w e. named-same n w bs e) i))
+    (fun-ext (negative-agree (isNamed (nameFrom noName n)) (same n) (λ w e. named-same n w bs e) i))))
 reader-reads (four n f s h) bs =
     rw (whole-bytes h)
     (ap (ifNumber (numeral f)) (fun-ext (λ k.

@@ -1,6 +1,7 @@
--- `script::lines::numeral_with`: the test is the definition's, and a digit is below 10.
+-- `script::lines::numeral_with`: the tests are the definition's, and a digit is below 10.
 -- Assumes nothing.
 use borrow.Author.Needs.{needs}
+use borrow.Author.Tests.{eq-eqb, ne-eqb}
 use native.Mathlib.Omega.{arith}
 use Rattle.script.proofs.LinesLaws.{between}
 use Rattle.script.proofs.lines.numeral_with.Statement.{statement}
@@ -14,4 +15,6 @@ numeral-with-spec =
     (λ c. search needs)
     (λ c κs. omega (arith, between 48 57 (c .before .args .b) (c .if1 .taken)))
     (λ c. rw (c .before .if1 .taken) (c .with-digit .ensures))
-    (λ c. rw (c .if1 .left)))
+    (λ c κs. search needs)
+    (λ c. rw (c .before .before .if1 .left, eq-eqb _ _ (c .before .if2 .taken)) (c .with-minus .ensures))
+    (λ c. rw (c .before .if1 .left, ne-eqb _ _ (c .if2 .left))))

@@ -2,6 +2,7 @@
 -- Assumes nothing.
 use borrow.Author.Needs.{needs}
 use Rattle.script.specs.Reader.{commandOf}
+use Rattle.script.proofs.LinesLaws.{no-number}
 use Rattle.script.proofs.lines.with_number.Statement.{statement}
 use Rattle.script.proofs.lines.with_number.Tie as tie
 
@@ -11,9 +12,6 @@ with-number-spec =
     tie.close
     (tie.spec
     (λ c. search needs)
-    (λ c. search needs)
     (λ c κs. search needs)
-    (λ c. search needs)
-    (λ c. rw (c .enum-told .given .1))
     (λ c. rw (c .before .before .f .given .1) (c .of-object .ensures))
-    (λ c. rw (c .enum-told2 .given .1)))
+    (λ c. no-number (c .before .args .f) _ (c .match .keys2)))
