@@ -7,7 +7,7 @@ use mathlib.Core.Path.{_≡_, refl, sym, ap, _∙_}
 use Prim.Native.Nat.{ℕ, zero, suc, _+_, _-_, _*_, _/_, _%_, _^_, _≤_, _<_, zero-le}
 use native.Mathlib.Nat.{pow-succ', mod-lt, mod-eq-of-lt, add-mul-mod-self-left, lt-of-lt-of-le, mul-comm}
 use native.Mathlib.Omega.{arith}
-use borrow.Author.Tests.{ltb-true, ltb-false, lt-ltb, le-ltb, le-leb, lt-leb, eq-eqb, ne-eqb}
+use borrow.Author.Tests.{eqb-true, ltb-true, ltb-false, lt-ltb, le-ltb, le-leb, lt-leb, eq-eqb, ne-eqb}
 use lib.Dec.{leb, ltb, eqb, leb·suc-suc}
 use lib.IntN.{pos, negsuc, negℤ}
 use lib.ListN.{length}
@@ -98,6 +98,13 @@ module _ (size v : ℕ) (some : 1 ≤ size) (most : size ≤ 32) (fits : v < 2 ^
   filled-with-ones false {p} {q} e t all = let z : true ≡ false = t in absurd (true-not-false refl z)
   filled-with-ones true {p} {q} e t all = rw all (sym (extended-high (omega (arith, e, ltb-false v p t))))
 
+-- below its size a message keeps its bits
+pub extended-bit : (signed : Bool) (size v i : ℕ) → i < size → size ≤ 32 → bit (extended signed size v) i ≡ bit v i
+unfolding extended
+extended-bit false size v i low most = refl
+extended-bit true size v i low most =
+    number-bit (λ j. bit v (pick (ltb j size) j (size - 1))) (λ j. bit-lt v (pick (ltb j size) j (size - 1))) 32 i (omega arith) ∙ rw (lt-ltb i size low)
+
 -- a field has its bits and no more
 pub field-lt : (w at size : ℕ) → bitField w at size < 2 ^ size
 unfolding bitField
@@ -173,6 +180,13 @@ fits-exactly false size v some most low =
     (λ (h : 2 ^ size ≤ v). rw (le-ltb v (2 ^ size) h) (ne-eqb (v % 2 ^ size) v (λ e. omega (arith, h, e, mod-lt v (pow-pos size)))))
     (lt-or-le v (2 ^ size))
 fits-exactly true size v some most low = ⊎-elim (plain size v some most low) (negative size v some most low) (lt-or-le v (2 ^ 31))
+
+module _ (signed : Bool) (size v : ℕ) (some : 1 ≤ size) (most : size ≤ 32) (low : v < 2 ^ 32) where
+  pub fits-back : fitsBits signed size v ≡ true → readBack signed size v ≡ v
+  fits-back fits = eqb-true (readBack signed size v) v (fits-exactly signed size v some most low ∙ fits)
+
+  pub back-fits : readBack signed size v ≡ v → fitsBits signed size v ≡ true
+  back-fits back = sym (fits-exactly signed size v some most low) ∙ eq-eqb (readBack signed size v) v back
 
 -- a stored reading, unpacked, gives its low bits, extended
 pub signed-round-trip : (o : Order) (start size : ℕ) (f : List ℕ) → Fits o start size (length f) → (signed : Bool) (v : ℕ)

@@ -91,17 +91,17 @@ run-fast t (call ∷ calls) m =
 -- ---- cases
 
 abbrev pub Computes : Case → Type 0
-Computes (packs o n size v L f back) = Holds (packs o n size v L f back)
+Computes (packs o signed n size v L f back) = Holds (packs o signed n size v L f back)
 Computes (fits o n size L answer) = Holds (fits o n size L answer)
-Computes (passing filter first second old occurrence values passed) = Holds (passing filter first second old occurrence values passed)
+Computes (passing signed filter first second old occurrence values passed) = Holds (passing signed filter first second old occurrence values passed)
 Computes (counting filter first second counts) = Holds (counting filter first second counts)
 Computes (checks table verdict) = Holds (checks table verdict)
 Computes (answers table lines) = answered lines (runFast table (callsOf lines) (replicate memorySize 165)) ≡ expected lines
 
 holds : (c : Case) → Computes c → Holds c
-holds (packs o n size v L f back) e = e
+holds (packs o signed n size v L f back) e = e
 holds (fits o n size L answer) e = e
-holds (passing filter first second old occurrence values passed) e = e
+holds (passing signed filter first second old occurrence values passed) e = e
 holds (counting filter first second counts) e = e
 holds (checks table verdict) e = e
 holds (answers table lines) e = ap (answered lines) (run-fast table (callsOf lines) (replicate memorySize 165)) ∙ e

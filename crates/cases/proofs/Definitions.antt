@@ -1,7 +1,8 @@
 -- What a proved case is computed from: every definition that a filter, the check or a call goes through. To unfold one of the names
 -- below is to unfold all that its line names. Assumes nothing.
 use Rattle.memory.specs.Bytes.{value, bytesOf, part, numberAt, replaced}
-use Rattle.bits.specs.Bits.{bit, frameBit, place, room, number, frameOf, written, packed, unpacked, owns}
+use Rattle.memory.specs.Integers.{integer, atMost, lessThan}
+use Rattle.bits.specs.Bits.{bit, frameBit, place, room, number, frameOf, written, packed, unpacked, owns, extended}
 use Rattle.bits.specs.Slots.{position}
 use Rattle.filter.specs.Filters.{passes, greatestCount, nextCount, filterOf, filterRight}
 use Rattle.table.specs.Records.{counts, ipduRecord, objectRecord}
@@ -23,11 +24,11 @@ use Rattle.startup.specs.Start.{blank, prepared, started}
 use Rattle.layer.specs.Step.{step}
 
 unfoldable pub bitDefinitions : Unit {0}
-unfolding value bytesOf part numberAt replaced bit frameBit place room number frameOf written packed unpacked owns position
+unfolding value bytesOf part numberAt replaced bit frameBit place room number frameOf written packed unpacked owns extended position
 bitDefinitions = tt
 
 unfoldable pub checkDefinitions : Unit {0}
-unfolding passes greatestCount nextCount filterOf filterRight counts ipduRecord objectRecord offsetsRight headerRight ipduRight references objectRight check ipduOf objectOf
+unfolding integer atMost lessThan passes greatestCount nextCount filterOf filterRight counts ipduRecord objectRecord offsetsRight headerRight ipduRight references objectRight check ipduOf objectOf
 checkDefinitions = tt
 
 unfoldable pub stateDefinitions : Unit {0}

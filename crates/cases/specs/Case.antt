@@ -10,7 +10,7 @@ use lib.ListN.{replicate}
 use Rattle.memory.specs.Bytes.{bytesOf, part}
 use Rattle.memory.specs.Search.{pick}
 use Rattle.bits.specs.declared.Order.{Order}
-use Rattle.bits.specs.Bits.{room, packed, unpacked}
+use Rattle.bits.specs.Bits.{room, packed, unpacked, extended}
 use Rattle.filter.specs.declared.Filter.{Filter}
 use Rattle.filter.specs.Filters.{passes, nextCount, filterOf}
 use Rattle.table.specs.declared.Verdict.{Verdict}
@@ -35,13 +35,14 @@ line call number value = record { call = call; number = number; value = value; s
 abbrev pub shows : Call → ℕ → ℕ → List ℕ → List ℕ → Line
 shows call number value slots bytes = record { call = call; number = number; value = value; slots = slots; bytes = bytes }
 
--- a value of some bits at a start bit in L zero bytes, the frame that it gives and what unpacks from that; whether so many bits
--- at a start bit fit L bytes; a filter with its constants, old and occurrence, some values and those of them that pass; a filter with its
+-- a value of some bits, signed or not, at a start bit in L zero bytes, the frame that it gives and what unpacks from that; whether so many
+-- bits at a start bit fit L bytes; a filter of an object that is signed or not, with its constants, old and occurrence, some values and those
+-- of them that pass; a filter with its
 -- constants and the counts of its first filterings; what the check answers to a table; or a table and a list of calls with what each answers
 pub data Case : Type 0 where
-  packs : Order → (n size value L : ℕ) → List ℕ → (back : ℕ) → Case
+  packs : Order → (signed : Bool) (n size value L : ℕ) → List ℕ → (back : ℕ) → Case
   fits : Order → (n size L : ℕ) → Bool → Case
-  passing : (filter first second old occurrence : ℕ) (values passed : List ℕ) → Case
+  passing : (signed : Bool) (filter first second old occurrence : ℕ) (values passed : List ℕ) → Case
   counting : (filter first second : ℕ) (counts : List ℕ) → Case
   checks : (table : List ℕ) → Verdict → Case
   answers : (table : List ℕ) → List Line → Case
@@ -66,11 +67,11 @@ answered (l ∷ ls) [] = []
 answered (l ∷ ls) (o ∷ os) = (numberOf (o .answer) ∷ valueOf (o .answer) ∷ slotsOf (l .slots) (o .area)) ∷ answered ls os
 
 -- the values that pass a filter, each given the same old and occurrence
-abbrev pub passedOf : (filter first second old occurrence : ℕ) → List ℕ → List ℕ
-passedOf filter first second old occurrence [] = []
-passedOf filter first second old occurrence (new ∷ vs) =
-    pick (passes (filterOf filter first second) new old occurrence) (new ∷ passedOf filter first second old occurrence vs)
-    (passedOf filter first second old occurrence vs)
+abbrev pub passedOf : (signed : Bool) (filter first second old occurrence : ℕ) → List ℕ → List ℕ
+passedOf signed filter first second old occurrence [] = []
+passedOf signed filter first second old occurrence (new ∷ vs) =
+    pick (passes signed (filterOf filter first second) new old occurrence) (new ∷ passedOf signed filter first second old occurrence vs)
+    (passedOf signed filter first second old occurrence vs)
 
 -- the counts of as many filterings, from n on
 abbrev pub countsFrom : Filter → ℕ → List ℕ → List ℕ
@@ -78,9 +79,9 @@ countsFrom f n [] = []
 countsFrom f n (c ∷ cs) = n ∷ countsFrom f (nextCount f n) cs
 
 abbrev pub Holds : Case → Type 0
-Holds (packs o n size v L f back) = (packed o n size v (replicate L 0) ≡ f) × (unpacked o n size f ≡ back)
+Holds (packs o signed n size v L f back) = (packed o n size v (replicate L 0) ≡ f) × (extended signed size (unpacked o n size f) ≡ back)
 Holds (fits o n size L answer) = room o n size L ≡ answer
-Holds (passing filter first second old occurrence values passed) = passedOf filter first second old occurrence values ≡ passed
+Holds (passing signed filter first second old occurrence values passed) = passedOf signed filter first second old occurrence values ≡ passed
 Holds (counting filter first second counts) = countsFrom (filterOf filter first second) 0 counts ≡ counts
 Holds (checks table verdict) = check table ≡ verdict
 Holds (answers table lines) = answered lines (run table (callsOf lines) (replicate memorySize 165)) ≡ expected lines

@@ -101,9 +101,9 @@ case11 =
 abbrev pub documentCases : List Case
 documentCases =
     -- 1 to 3
-    packs Little 13 12 2748 4 (0x00 ∷ 0x80 ∷ 0x57 ∷ 0x01 ∷ []) 2748
-    ∷ packs Big 18 12 2748 4 (0x00 ∷ 0x2A ∷ 0xF0 ∷ 0x00 ∷ []) 2748
-    ∷ packs Little 13 12 6844 4 (0x00 ∷ 0x80 ∷ 0x57 ∷ 0x01 ∷ []) 2748
+    packs Little false 13 12 2748 4 (0x00 ∷ 0x80 ∷ 0x57 ∷ 0x01 ∷ []) 2748
+    ∷ packs Big false 18 12 2748 4 (0x00 ∷ 0x2A ∷ 0xF0 ∷ 0x00 ∷ []) 2748
+    ∷ packs Little false 13 12 6844 4 (0x00 ∷ 0x80 ∷ 0x57 ∷ 0x01 ∷ []) 2748
     -- 4, 5
     ∷ fits Big 18 22 4 true
     ∷ fits Big 18 23 4 false

@@ -135,14 +135,16 @@ objectRules =
     -- length 1..32
     ∷ objectRefused (objectBytes 2 1 255 0 0 0 0 0 0 0 0 0) ∷ objectAccepted (objectBytes 2 1 255 0 1 0 0 0 0 0 0 0)
     ∷ objectAccepted (objectBytes 2 1 255 0 32 0 0 0 0 0 0 0) ∷ objectRefused (objectBytes 2 1 255 0 33 0 0 0 0 0 0 0)
-    -- byte order 0 or 1
-    ∷ objectAccepted (objectBytes 1 0 255 18 12 1 0 0 0 0 0 0) ∷ objectRefused (objectBytes 1 0 255 18 12 2 0 0 0 0 0 0)
+    -- byte order 0 to 3; 2 and 3 are signed (W-207)
+    ∷ objectAccepted (objectBytes 1 0 255 18 12 1 0 0 0 0 0 0) ∷ objectAccepted (objectBytes 1 0 255 13 12 2 0 0 0 0 0 0)
+    ∷ objectAccepted (objectBytes 2 1 255 18 12 3 0 0 0 0 0 0) ∷ objectRefused (objectBytes 1 0 255 18 12 4 0 0 0 0 0 0)
     -- depth 0..16
     ∷ objectAccepted (objectBytes 2 1 255 0 8 0 0 16 0 0 0 0) ∷ objectRefused (objectBytes 2 1 255 0 8 0 0 17 0 0 0 0)
-    -- outside any I-PDU all 32 bits from bit 0 on, little; either transfer
+    -- outside any I-PDU all 32 bits from bit 0 on, little or signed little; either transfer
     ∷ objectAccepted (objectBytes 1 255 255 0 32 0 1 0 0 0 0 0) ∷ objectAccepted (objectBytes 2 255 255 0 32 0 0 4 0 0 0 0)
     ∷ objectRefused (objectBytes 1 255 255 1 32 0 0 0 0 0 0 0) ∷ objectRefused (objectBytes 1 255 255 0 31 0 0 0 0 0 0 0)
-    ∷ objectRefused (objectBytes 2 255 255 0 32 1 0 0 0 0 0 0)
+    ∷ objectRefused (objectBytes 2 255 255 0 32 1 0 0 0 0 0 0) ∷ objectAccepted (objectBytes 2 255 255 0 32 2 0 4 0 0 0 0)
+    ∷ objectRefused (objectBytes 1 255 255 0 32 3 0 0 0 0 0 0)
     -- all bits lie inside the I-PDU: little, start + length at most 8L
     ∷ objectAccepted (objectBytes 1 0 255 20 12 0 0 0 0 0 0 0) ∷ objectRefused (objectBytes 1 0 255 21 12 0 0 0 0 0 0 0)
     ∷ objectAccepted (objectBytes 2 1 255 32 32 0 0 0 0 0 0 0) ∷ objectRefused (objectBytes 2 1 255 33 32 0 0 0 0 0 0 0)
@@ -150,6 +152,9 @@ objectRules =
     ∷ objectAccepted (objectBytes 1 0 255 31 25 1 0 0 0 0 0 0) ∷ objectRefused (objectBytes 1 0 255 31 26 1 0 0 0 0 0 0)
     ∷ objectAccepted (objectBytes 1 0 255 7 1 1 0 0 0 0 0 0) ∷ objectRefused (objectBytes 1 0 255 7 2 1 0 0 0 0 0 0)
     ∷ objectRefused (objectBytes 1 0 255 32 1 1 0 0 0 0 0 0)
+    -- signed ones by the same walk
+    ∷ objectAccepted (objectBytes 1 0 255 20 12 2 0 0 0 0 0 0) ∷ objectRefused (objectBytes 1 0 255 21 12 2 0 0 0 0 0 0)
+    ∷ objectAccepted (objectBytes 1 0 255 31 25 3 0 0 0 0 0 0) ∷ objectRefused (objectBytes 1 0 255 31 26 3 0 0 0 0 0 0)
     -- the rest zero: bytes 9 to 11 and 24 to 31
     ∷ objectByte 9 1 ∷ objectByte 10 1 ∷ objectByte 11 1 ∷ objectByte 24 1 ∷ objectByte 31 1
     ∷ []

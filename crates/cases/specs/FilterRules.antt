@@ -1,5 +1,6 @@
 -- Document 01, "Filters", with W-203's count: each filter on both sides of its boundary, what old and occurrence are, and who meets a
 -- filter. Worked out from the documents. Assumes nothing.
+use mathlib.Core.Bool.{false}
 use mathlib.Core.List.{List, [], _∷_}
 use Rattle.layer.specs.Step.{start, initialise, receive}
 use Rattle.cases.specs.Case.{line, Case, passing, counting, answers, pair, tableOf, receiveIpdu, objectBytes}
@@ -9,84 +10,84 @@ use Rattle.cases.specs.Lines.{ok, refuses, sendGives, receiveGives, mark
 
 -- 0 passes always, 1 never
 abbrev passesAlways : Case
-passesAlways = passing 0 0 0 5 0 (0 ∷ 5 ∷ 4294967295 ∷ []) (0 ∷ 5 ∷ 4294967295 ∷ [])
+passesAlways = passing false 0 0 0 5 0 (0 ∷ 5 ∷ 4294967295 ∷ []) (0 ∷ 5 ∷ 4294967295 ∷ [])
 
 abbrev passesNever : Case
-passesNever = passing 1 0 0 5 0 (0 ∷ 5 ∷ 4294967295 ∷ []) []
+passesNever = passing false 1 0 0 5 0 (0 ∷ 5 ∷ 4294967295 ∷ []) []
 
 -- 2: new & mask = x, mask being the first constant
 abbrev maskedIsX : Case
-maskedIsX = passing 2 12 4 5 0 (0 ∷ 3 ∷ 4 ∷ 7 ∷ 8 ∷ 12 ∷ 20 ∷ []) (4 ∷ 7 ∷ 20 ∷ [])
+maskedIsX = passing false 2 12 4 5 0 (0 ∷ 3 ∷ 4 ∷ 7 ∷ 8 ∷ 12 ∷ 20 ∷ []) (4 ∷ 7 ∷ 20 ∷ [])
 
 -- 3: new & mask differs from x
 abbrev maskedIsNotX : Case
-maskedIsNotX = passing 3 12 4 5 0 (0 ∷ 3 ∷ 4 ∷ 7 ∷ 8 ∷ 12 ∷ 20 ∷ []) (0 ∷ 3 ∷ 8 ∷ 12 ∷ [])
+maskedIsNotX = passing false 3 12 4 5 0 (0 ∷ 3 ∷ 4 ∷ 7 ∷ 8 ∷ 12 ∷ 20 ∷ []) (0 ∷ 3 ∷ 8 ∷ 12 ∷ [])
 
 -- an x with a bit that mask lacks: 2 passes never, 3 always
 abbrev outsideMask : Case
-outsideMask = passing 2 4 5 5 0 (0 ∷ 1 ∷ 4 ∷ 5 ∷ []) []
+outsideMask = passing false 2 4 5 5 0 (0 ∷ 1 ∷ 4 ∷ 5 ∷ []) []
 
 abbrev outsideMaskDiffers : Case
-outsideMaskDiffers = passing 3 4 5 5 0 (0 ∷ 1 ∷ 4 ∷ 5 ∷ []) (0 ∷ 1 ∷ 4 ∷ 5 ∷ [])
+outsideMaskDiffers = passing false 3 4 5 5 0 (0 ∷ 1 ∷ 4 ∷ 5 ∷ []) (0 ∷ 1 ∷ 4 ∷ 5 ∷ [])
 
 -- 4: new = old; 5: new differs from old
 abbrev newIsOld : Case
-newIsOld = passing 4 0 0 5 0 (0 ∷ 4 ∷ 5 ∷ 6 ∷ 261 ∷ []) (5 ∷ [])
+newIsOld = passing false 4 0 0 5 0 (0 ∷ 4 ∷ 5 ∷ 6 ∷ 261 ∷ []) (5 ∷ [])
 
 abbrev newIsNotOld : Case
-newIsNotOld = passing 5 0 0 5 0 (0 ∷ 4 ∷ 5 ∷ 6 ∷ 261 ∷ []) (0 ∷ 4 ∷ 6 ∷ 261 ∷ [])
+newIsNotOld = passing false 5 0 0 5 0 (0 ∷ 4 ∷ 5 ∷ 6 ∷ 261 ∷ []) (0 ∷ 4 ∷ 6 ∷ 261 ∷ [])
 
 -- 6: new & mask = old & mask; 7: differs. Of 5 the mask leaves 4
 abbrev maskedIsOld : Case
-maskedIsOld = passing 6 12 0 5 0 (0 ∷ 4 ∷ 5 ∷ 7 ∷ 8 ∷ 12 ∷ 20 ∷ []) (4 ∷ 5 ∷ 7 ∷ 20 ∷ [])
+maskedIsOld = passing false 6 12 0 5 0 (0 ∷ 4 ∷ 5 ∷ 7 ∷ 8 ∷ 12 ∷ 20 ∷ []) (4 ∷ 5 ∷ 7 ∷ 20 ∷ [])
 
 abbrev maskedIsNotOld : Case
-maskedIsNotOld = passing 7 12 0 5 0 (0 ∷ 4 ∷ 5 ∷ 7 ∷ 8 ∷ 12 ∷ 20 ∷ []) (0 ∷ 8 ∷ 12 ∷ [])
+maskedIsNotOld = passing false 7 12 0 5 0 (0 ∷ 4 ∷ 5 ∷ 7 ∷ 8 ∷ 12 ∷ 20 ∷ []) (0 ∷ 8 ∷ 12 ∷ [])
 
 -- 8: min ≤ new ≤ max, min being the first constant; 9: not so
 abbrev insideBounds : Case
-insideBounds = passing 8 2 6 5 0 (0 ∷ 1 ∷ 2 ∷ 6 ∷ 7 ∷ 4294967295 ∷ []) (2 ∷ 6 ∷ [])
+insideBounds = passing false 8 2 6 5 0 (0 ∷ 1 ∷ 2 ∷ 6 ∷ 7 ∷ 4294967295 ∷ []) (2 ∷ 6 ∷ [])
 
 abbrev outsideBounds : Case
-outsideBounds = passing 9 2 6 5 0 (0 ∷ 1 ∷ 2 ∷ 6 ∷ 7 ∷ 4294967295 ∷ []) (0 ∷ 1 ∷ 7 ∷ 4294967295 ∷ [])
+outsideBounds = passing false 9 2 6 5 0 (0 ∷ 1 ∷ 2 ∷ 6 ∷ 7 ∷ 4294967295 ∷ []) (0 ∷ 1 ∷ 7 ∷ 4294967295 ∷ [])
 
 -- min above max is allowed: 8 passes never, 9 always
 abbrev insideMinAboveMax : Case
-insideMinAboveMax = passing 8 6 2 5 0 (1 ∷ 2 ∷ 4 ∷ 6 ∷ 7 ∷ []) []
+insideMinAboveMax = passing false 8 6 2 5 0 (1 ∷ 2 ∷ 4 ∷ 6 ∷ 7 ∷ []) []
 
 abbrev outsideMinAboveMax : Case
-outsideMinAboveMax = passing 9 6 2 5 0 (1 ∷ 2 ∷ 4 ∷ 6 ∷ 7 ∷ []) (1 ∷ 2 ∷ 4 ∷ 6 ∷ 7 ∷ [])
+outsideMinAboveMax = passing false 9 6 2 5 0 (1 ∷ 2 ∷ 4 ∷ 6 ∷ 7 ∷ []) (1 ∷ 2 ∷ 4 ∷ 6 ∷ 7 ∷ [])
 
 -- 10 to 13: new > old; ≤; <; ≥; values are unsigned
 abbrev newAboveOld : Case
-newAboveOld = passing 10 0 0 5 0 (0 ∷ 4 ∷ 5 ∷ 6 ∷ 4294967295 ∷ []) (6 ∷ 4294967295 ∷ [])
+newAboveOld = passing false 10 0 0 5 0 (0 ∷ 4 ∷ 5 ∷ 6 ∷ 4294967295 ∷ []) (6 ∷ 4294967295 ∷ [])
 
 abbrev newNotAboveOld : Case
-newNotAboveOld = passing 11 0 0 5 0 (0 ∷ 4 ∷ 5 ∷ 6 ∷ 4294967295 ∷ []) (0 ∷ 4 ∷ 5 ∷ [])
+newNotAboveOld = passing false 11 0 0 5 0 (0 ∷ 4 ∷ 5 ∷ 6 ∷ 4294967295 ∷ []) (0 ∷ 4 ∷ 5 ∷ [])
 
 abbrev newBelowOld : Case
-newBelowOld = passing 12 0 0 5 0 (0 ∷ 4 ∷ 5 ∷ 6 ∷ 4294967295 ∷ []) (0 ∷ 4 ∷ [])
+newBelowOld = passing false 12 0 0 5 0 (0 ∷ 4 ∷ 5 ∷ 6 ∷ 4294967295 ∷ []) (0 ∷ 4 ∷ [])
 
 abbrev newNotBelowOld : Case
-newNotBelowOld = passing 13 0 0 5 0 (0 ∷ 4 ∷ 5 ∷ 6 ∷ 4294967295 ∷ []) (5 ∷ 6 ∷ 4294967295 ∷ [])
+newNotBelowOld = passing false 13 0 0 5 0 (0 ∷ 4 ∷ 5 ∷ 6 ∷ 4294967295 ∷ []) (5 ∷ 6 ∷ 4294967295 ∷ [])
 
 -- 14: occurrence mod period = offset, period being the first constant; period 3, offset 2 at occurrences 0, 1, 2, 5; the longest period at
 -- its greatest count
 abbrev notItsTurn : Case
-notItsTurn = passing 14 3 2 5 1 (5 ∷ []) []
+notItsTurn = passing false 14 3 2 5 1 (5 ∷ []) []
 
 abbrev itsTurn : Case
-itsTurn = passing 14 3 2 5 2 (5 ∷ []) (5 ∷ [])
+itsTurn = passing false 14 3 2 5 2 (5 ∷ []) (5 ∷ [])
 
 abbrev turnIsOver : Case
-turnIsOver = passing 14 3 2 5 0 (5 ∷ []) []
+turnIsOver = passing false 14 3 2 5 0 (5 ∷ []) []
 
 -- the rule is of the remainder, for a count out of its range too
 abbrev laterTurn : Case
-laterTurn = passing 14 3 2 5 5 (5 ∷ []) (5 ∷ [])
+laterTurn = passing false 14 3 2 5 5 (5 ∷ []) (5 ∷ [])
 
 abbrev longestPeriod : Case
-longestPeriod = passing 14 255 254 5 254 (5 ∷ []) (5 ∷ [])
+longestPeriod = passing false 14 255 254 5 254 (5 ∷ []) (5 ∷ [])
 
 -- ---- old
 

@@ -9,6 +9,7 @@ use native.Mathlib.Omega.{arith}
 use lib.ListN.{replicate}
 use Rattle.memory.specs.Bytes.{Bytes, value, bytesOf, part, numberAt}
 use Rattle.bits.specs.Bits.{bit, frameBit, place, owns}
+use Rattle.memory.specs.Integers.{integer, lessThan}
 use Rattle.filter.specs.Filters.{passes, nextCount, filterOf}
 use Rattle.table.specs.Records.{counts, ipduRecord, objectRecord}
 use Rattle.state.specs.Layout.{memorySize}
@@ -70,7 +71,7 @@ stored = ipduBytes table 0 (memoryAfterAll table (single start ∷ xs) m)
 
 -- door 1 was stored last, and is open
 pub door-reads : readingIn (objectRecord table (counts table .ipdus) 1) stored ≡ 1
-unfolding value bytesOf part numberAt passes nextCount filterOf counts objectRecord advance
+unfolding value bytesOf part numberAt integer lessThan passes nextCount filterOf counts objectRecord advance
 door-reads = stored-last table bytes xs typed m started 0 (omega arith) 1 refl
 
 -- the number is older; at the place of its bit 1 it is covered, and nowhere else
@@ -78,16 +79,16 @@ abbrev coveredAt : ℕ → Bool
 coveredAt n = coveredSince table (counts table) 8 0 (messagePlace (objectRecord table (counts table .ipdus) 8) n) es
 
 pub covered-once : (storedLast table (counts table) 0 8 es ≡ false) × (coveredAt 0 ≡ false) × (coveredAt 1 ≡ true) × (coveredAt 2 ≡ false)
-unfolding value bytesOf part numberAt place owns passes nextCount filterOf counts objectRecord advance
+unfolding value bytesOf part numberAt place owns integer lessThan passes nextCount filterOf counts objectRecord advance
 covered-once = (refl, refl, refl, refl)
 
 own-bit : (n : ℕ) → n < 8 → coveredAt n ≡ false → bit (readingIn (objectRecord table (counts table .ipdus) 8) stored) n ≡ bit 0xA5 n
-unfolding value bytesOf part numberAt passes nextCount filterOf counts objectRecord advance
+unfolding value bytesOf part numberAt integer lessThan passes nextCount filterOf counts objectRecord advance
 own-bit n low free = stored-earlier table bytes xs typed m started 0 (omega arith) 8 n refl refl low free
 
 pub number-reads : (bit (readingIn (objectRecord table (counts table .ipdus) 8) stored) 0 ≡ 1) × (bit (readingIn (objectRecord table (counts table .ipdus) 8) stored) 6 ≡ 0)
     × (bit (readingIn (objectRecord table (counts table .ipdus) 8) stored) 7 ≡ 1)
-unfolding value bytesOf part numberAt bit place owns passes nextCount filterOf counts objectRecord advance
+unfolding value bytesOf part numberAt bit place owns integer lessThan passes nextCount filterOf counts objectRecord advance
 number-reads = (own-bit 0 (omega arith) refl, own-bit 6 (omega arith) refl, own-bit 7 (omega arith) refl)
 
 -- ---- demand 3: the frame that the group hands over for door 1
@@ -106,7 +107,7 @@ requested = rw asked
 -- bit 0 is the number's, above door 0's initial value; bit 1 is the door's, which is later; bit 3 is the number's 0, later than door 3's 1
 pub latest-bits : (frameBit (frame table 0 (step table (send 1 1 area) before .area)) 0 ≡ 1) × (frameBit (frame table 0 (step table (send 1 1 area) before .area)) 1 ≡ 1)
     × (frameBit (frame table 0 (step table (send 1 1 area) before .area)) 3 ≡ 0)
-unfolding value bytesOf part numberAt bit place owns passes nextCount filterOf counts ipduRecord objectRecord advance
+unfolding value bytesOf part numberAt bit place owns integer lessThan passes nextCount filterOf counts ipduRecord objectRecord advance
 latest-bits =
     let kept = demand-3 table bytes xs [] typed tt m m started started .0 .1 .1 .1 .0 .sends refl .0 in
     (kept .bits 0 requested 0 (omega arith), kept .bits 0 requested 1 (omega arith), kept .bits 0 requested 3 (omega arith))

@@ -13,10 +13,10 @@ use Rattle.cases.specs.Lines.{ok, refuses, sendGives, tickGives, receiveGives, 
 -- little order: on from the start bit over all bytes; big: from the byte's end to bit 0 of the byte before
 abbrev bitPlaces : List Case
 bitPlaces =
-    packs Little 0 32 0x01020304 4 (4 ∷ 3 ∷ 2 ∷ 1 ∷ []) 0x01020304
-    ∷ packs Big 24 32 0x01020304 4 (1 ∷ 2 ∷ 3 ∷ 4 ∷ []) 0x01020304
-    ∷ packs Big 63 9 511 8 (replicate 6 0 ++ (0xFF ∷ 0x80 ∷ [])) 511
-    ∷ packs Little 63 1 3 8 (replicate 7 0 ++ (0x80 ∷ [])) 1
+    packs Little false 0 32 0x01020304 4 (4 ∷ 3 ∷ 2 ∷ 1 ∷ []) 0x01020304
+    ∷ packs Big false 24 32 0x01020304 4 (1 ∷ 2 ∷ 3 ∷ 4 ∷ []) 0x01020304
+    ∷ packs Big false 63 9 511 8 (replicate 6 0 ++ (0xFF ∷ 0x80 ∷ [])) 511
+    ∷ packs Little false 63 1 3 8 (replicate 7 0 ++ (0x80 ∷ [])) 1
     ∷ []
 
 -- the last I-PDU of 32, with L 8 and the last 32 bits

@@ -13,11 +13,11 @@ use Rattle.memory.specs.Bytes.{Bytes, part, replaced}
 use Rattle.memory.proofs.Parts.{part-replaced, part-apart, part-front}
 use Rattle.memory.proofs.Search.{picked}
 use Rattle.bits.specs.declared.Order.{Order}
-use Rattle.bits.specs.Bits.{room, unpacked}
+use Rattle.bits.specs.Bits.{room, unpacked, extended}
 use Rattle.bits.proofs.RoundTrip.{unpacked-front}
 use Rattle.table.specs.declared.Counts.{Counts}
 use Rattle.table.specs.Records.{receiving, sending, absent, counts, ipduRecord, objectRecord}
-use Rattle.table.specs.Rules.{orderOf}
+use Rattle.table.specs.Rules.{orderOf, signedOf}
 use Rattle.config.specs.Decode.{objectOf}
 use Rattle.table.proofs.Accepted.{usable}
 use Rattle.state.specs.Layout.{areaSize, slotAt, ipduState, objectState}
@@ -83,8 +83,9 @@ module _ (t : List ℕ) (c : Counts) (m : List ℕ) (ready : Ready t c m) (j : �
   copied-value =
       let r = objectRecord t (c .ipdus) j in
       let u = usable t c (ready .right) j low in
-      ap (λ (n : ℕ). unpacked (orderOf (r .order)) n (r .size) (part (slotAt (r .ipdu)) 8 copied)) (start-bit t c (ready .right) j low)
-      ∙ copied-trip (orderOf (r .order)) (r .start) (r .size) f m (slotAt (r .ipdu)) (u .slot .some) few (rw long (u .room some)) (omega (arith, below, ready .long))
+      ap (extended (signedOf (r .order)) (r .size))
+      (ap (λ (n : ℕ). unpacked (orderOf (r .order)) n (r .size) (part (slotAt (r .ipdu)) 8 copied)) (start-bit t c (ready .right) j low)
+      ∙ copied-trip (orderOf (r .order)) (r .start) (r .size) f m (slotAt (r .ipdu)) (u .slot .some) few (rw long (u .room some)) (omega (arith, below, ready .long)))
 
   abbrev delivery : List ℕ
   delivery = deliverFrame t c (objectRecord t (c .ipdus) j .ipdu) copied

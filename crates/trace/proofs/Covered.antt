@@ -12,19 +12,20 @@ use lib.Dec.{eqb}
 use Rattle.memory.proofs.Search.{Found, found, nowhere, there, any-some, least-at}
 use Rattle.memory.proofs.Tests.{or-split, eq-or-ne, true-or-false, true-not-false}
 use Rattle.bits.specs.declared.Order.{Order}
-use Rattle.bits.specs.Bits.{bit, frameBit, place, written, unpacked, owns}
+use Rattle.bits.specs.Bits.{bit, frameBit, place, written, unpacked, owns, extended, readBack}
 use Rattle.bits.proofs.RoundTrip.{written-own}
+use Rattle.bits.proofs.Extension.{extended-bit}
 use Rattle.bits.proofs.Numbers.{bit-lt, number-ext, number-bit, number-bits}
 use Rattle.bits.proofs.Places.{Run, place-inside}
 use Rattle.table.specs.declared.Counts.{Counts}
 use Rattle.table.specs.declared.ObjectRecord.{ObjectRecord}
 use Rattle.table.specs.Records.{sending, absent, ipduRecord, objectRecord}
-use Rattle.table.specs.Rules.{orderOf}
+use Rattle.table.specs.Rules.{orderOf, signedOf}
 use Rattle.table.specs.Check.{Right}
 use Rattle.table.proofs.Accepted.{usable}
 use Rattle.calls.proofs.Records.{object-there, ipdu-short}
 use Rattle.trace.specs.Book.{Entry, Book, sends, lastOf, keeps, afterSend, ownsIpduBit, messageBit, bookBit}
-use Rattle.trace.specs.RoundTrip.{readingIn, storedLast, coveredSince, messagePlace, LastReads, OlderReads, Uncovered}
+use Rattle.trace.specs.RoundTrip.{readingIn, readingOf, storedLast, coveredSince, messagePlace, LastReads, OlderReads, Uncovered}
 use Rattle.trace.proofs.Entries.{has, AllSent, Full}
 
 -- at the place of message bit n stands that bit of the value
@@ -111,15 +112,19 @@ module _ (t : List ℕ) (c : Counts) (right : Right t c) (k : ℕ) (in-table : k
   unfolding unpacked frameBit
   older-reads i n s at low free =
       let r = objectRecord t (c .ipdus) i in
-      number-bit (λ l. frameBit f (messagePlace r l)) (λ l. bit-lt _ _) (r .size) n low ∙ own-place i n s at low free
+      let most = usable t c right i (object-there t c sending i s) .slot .most in
+      extended-bit (signedOf (r .order)) (r .size) (unpacked (orderOf (r .order)) (r .start) (r .size) f) n low most
+      ∙ number-bit (λ l. frameBit f (messagePlace r l)) (λ l. bit-lt _ _) (r .size) n low
+      ∙ own-place i n s at low free
 
   pub whole-reads : (i : ℕ) → sends t c i ≡ true → objectRecord t (c .ipdus) i .ipdu ≡ k → Uncovered t c i es
-      → readingIn (objectRecord t (c .ipdus) i) f ≡ lastOf i es % 2 ^ (objectRecord t (c .ipdus) i .size)
-  unfolding unpacked
+      → readingIn (objectRecord t (c .ipdus) i) f ≡ readingOf (objectRecord t (c .ipdus) i) (lastOf i es)
+  unfolding unpacked readBack
   whole-reads i s at free =
       let r = objectRecord t (c .ipdus) i in
-      number-ext (r .size) (λ n. frameBit f (messagePlace r n)) (bit (lastOf i es)) (λ n low. own-place i n s at low (rw at at (free n low)))
-      ∙ number-bits (r .size) (lastOf i es)
+      ap (extended (signedOf (r .order)) (r .size))
+      (number-ext (r .size) (λ n. frameBit f (messagePlace r n)) (bit (lastOf i es)) (λ n low. own-place i n s at low (rw at at (free n low)))
+      ∙ number-bits (r .size) (lastOf i es))
 
   pub last-reads : LastReads t c es k f
   last-reads i last =

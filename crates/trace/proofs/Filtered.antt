@@ -76,7 +76,7 @@ module _ (t : List ℕ) (right : Right t (counts t)) (i : ℕ) (x : Fourteen t i
         → InTurnFrom n (passesFilter (object t (counts t) i) v (objectState (workingMemory m) i) ∷ []) l
     one-filtered v l next =
         record {
-          passes = rw (filter-is, here, passes-in-turn (periodOf t i) (offsetOf t i) v (objectState (workingMemory m) i .old) n (in-period .0));
+          passes = rw (filter-is, here, passes-in-turn (object t (counts t) i .signed) (periodOf t i) (offsetOf t i) v (objectState (workingMemory m) i .old) n (in-period .0));
           count = next ∙ rw (filter-is, here) (next-in-turn (periodOf t i) (offsetOf t i) n (in-period .0));
         }
 

@@ -12,6 +12,7 @@ use lib.Dec.{eqb}
 use Rattle.memory.specs.Bytes.{value, bytesOf, part, numberAt}
 use Rattle.memory.proofs.Tests.{true-not-false}
 use Rattle.bits.specs.Bits.{bit, frameBit, place, owns}
+use Rattle.memory.specs.Integers.{integer, lessThan}
 use Rattle.filter.specs.Filters.{passes, filterOf}
 use Rattle.table.specs.Records.{counts, ipduRecord, objectRecord}
 use Rattle.calls.specs.Answers.{numberOf, valueOf}
@@ -43,7 +44,7 @@ typed-h : ActionsTyped (group h ∷ [])
 typed-h = (((omega arith, none), ((omega arith, none), tt)), tt)
 
 pub groups-alike : ActionsAlike table (counts table) unopened unopened (single start ∷ group g ∷ []) (single start ∷ group h ∷ [])
-unfolding value bytesOf part numberAt passes filterOf counts objectRecord advance
+unfolding value bytesOf part numberAt integer lessThan passes filterOf counts objectRecord advance
 groups-alike = (
   alikeCalls start start refl refl (same refl),
   (
@@ -78,7 +79,7 @@ asked = rw (group-words .0)
 
 first-bit : claim.names (valueOf (step table (send 0 2748 here) begun .answer)) 0
     → frameBit (claim.frame table 0 (step table (send 0 2748 here) begun .area)) 24 ≡ 1
-unfolding value bytesOf part numberAt bit place owns passes filterOf counts ipduRecord objectRecord advance
+unfolding value bytesOf part numberAt bit place owns integer lessThan passes filterOf counts ipduRecord objectRecord advance
 first-bit e = both .0 .1 .0 .sends refl .0 .bits 0 e 24 (omega arith)
 
 -- bit 24 of the frame that the group hands over is 1 (case 1: 00 80 57 01)
@@ -93,7 +94,7 @@ group-frame = by (both .0 .1 .0 .frames 0 asked)
 
 -- both its sends are done, and so its statuses are 0 and 0
 pub group-statuses : groupStep table g begun .statuses ≡ 0 ∷ 0 ∷ []
-unfolding value bytesOf part numberAt passes filterOf counts objectRecord advance
+unfolding value bytesOf part numberAt integer lessThan passes filterOf counts objectRecord advance
 group-statuses =
     let sends = both .0 .1 .0 .sends refl in
     let first = eqb-true (numberOf (step table (send 0 2748 here) begun .answer)) 0 (sends .0 .judged) in

@@ -10,7 +10,8 @@ use borrow.Author.Tests.{eq-eqb}
 use lib.ListN.{length, replicate}
 use Rattle.memory.specs.Bytes.{Bytes, value, bytesOf, part, numberAt}
 use Rattle.memory.proofs.Tests.{tested, true-not-false}
-use Rattle.bits.specs.Bits.{bit, frameBit, place, owns}
+use Rattle.bits.specs.Bits.{bit, frameBit, place, owns, extended, readBack}
+use Rattle.memory.specs.Integers.{integer, lessThan}
 use Rattle.filter.specs.Filters.{passes, filterOf}
 use Rattle.table.specs.Records.{sending, counts, ipduRecord, objectRecord}
 use Rattle.config.specs.Decode.{objectOf}
@@ -106,7 +107,7 @@ typed-ys : ActionsTyped (singles ys)
 typed-ys = ((omega arith, none), ((tt, none), ((omega arith, none), ((tt, none), tt))))
 
 pub alike : ActionsAlike table (counts table) unopened unopened (singles (start ∷ xs)) (singles (start ∷ ys))
-unfolding value bytesOf part numberAt passes filterOf counts objectRecord advance
+unfolding value bytesOf part numberAt integer lessThan passes filterOf counts objectRecord advance
 alike = (
   alikeCalls start start refl refl (same refl),
   (
@@ -142,7 +143,7 @@ unlike-call b d k (dropped i v w area other ex ey l kv kw inside) =
     true-not-false k (rw (← ap (λ (c : Call). sentOf c .0) ex, ← ap (λ (c : Call). sentOf c .1) ex) at kv)
 
 pub unlike : AllAlike table (counts table) unopened unopened (start ∷ send 0 5 here ∷ []) (start ∷ send 0 6 here ∷ []) → ⊥
-unfolding value bytesOf part numberAt passes filterOf counts objectRecord advance
+unfolding value bytesOf part numberAt integer lessThan passes filterOf counts objectRecord advance
 unlike a = unlike-call _ _ refl (a .1 .0)
 
 -- ---- what demand 3 gives of them
@@ -182,7 +183,7 @@ both = demand-3 table bytes (singles xs) (singles ys) typed-xs typed-ys m n star
 
 -- bit 24 of the first frame is 1 (case 1: 00 80 57 01)
 pub first-frame : frameBit (claim.frame table 0 (step table (send 0 2748 here) (after (start ∷ []) m) .area)) 24 ≡ 1
-unfolding value bytesOf part numberAt bit place owns passes filterOf counts ipduRecord objectRecord advance
+unfolding value bytesOf part numberAt bit place owns integer lessThan passes filterOf counts ipduRecord objectRecord advance
 first-frame = both .0 .1 .0 .bits 0 requested 24 (omega arith)
 
 -- that I-PDU is a send I-PDU of the table
@@ -254,7 +255,7 @@ zeros-stopped = refl
 
 -- the first frame, read back
 pub first-reading : readingIn (objectRecord table (counts table .ipdus) 0) (claim.frame table 0 (step table (send 0 2748 here) (after (start ∷ []) m) .area)) ≡ 2748
-unfolding value bytesOf part numberAt passes filterOf counts objectRecord advance
+unfolding extended readBack value bytesOf part numberAt integer lessThan passes filterOf counts objectRecord advance
 first-reading = frames-read table bytes (singles xs) typed-xs m started-m .1 .0 0 requested .0 0 refl
 
 -- another board, with a like receive object
@@ -273,14 +274,14 @@ unfolding definitions
 receiver = record { typed = tt; accepted = refl; running = refl }
 
 takes : Takes other 0 2748 (memoryOf other [] n)
-unfolding value bytesOf part numberAt passes filterOf counts objectRecord objectOf
+unfolding value bytesOf part numberAt integer lessThan passes filterOf counts objectRecord objectOf
 takes = record { low = omega arith; kind = refl; passes = refl }
 
 -- receives there what was sent here
 pub received : step other (receive 0)
     (step other (indication 0 true (claim.frame table 0 (step table (send 0 2748 here) (after (start ∷ []) m) .area))) (memoryOf other [] n) .memory) .answer
     ≡ Done 2748
-unfolding value bytesOf part numberAt passes filterOf counts ipduRecord objectRecord advance
+unfolding extended readBack value bytesOf part numberAt integer lessThan passes filterOf counts ipduRecord objectRecord advance
 received =
     reading-round-trip table bytes [] m sender (send 0 2748 here) (omega arith, none) 0 0 requested refl refl (λ n low. refl) other other-bytes [] n receiver 0
     (omega arith) (record { order = refl; start = refl; size = refl; length = refl }) 2748 refl takes .unqueued refl

@@ -5,7 +5,7 @@
 use mathlib.Core.Bool.{true, false}
 use mathlib.Core.List.{List, [], _∷_}
 use mathlib.Core.Path.{_≡_, sym, ap, _∙_}
-use Prim.Native.Nat.{ℕ, _*_, _%_, _^_, _<_}
+use Prim.Native.Nat.{ℕ, _*_, _<_}
 use native.Mathlib.Omega.{arith}
 use borrow.Author.Tests.{ne-eqb}
 use lib.Dec.{eqb}
@@ -13,11 +13,14 @@ use lib.ListN.{length}
 use Rattle.memory.specs.Bytes.{Bytes}
 use Rattle.memory.proofs.Parts.{part-length, part-bytes}
 use Rattle.bits.specs.Bits.{frameBit}
+use Rattle.bits.proofs.Extension.{fits-back, back-fits}
 use Rattle.table.specs.declared.Counts.{Counts}
 use Rattle.table.specs.Records.{sending, absent, counts, ipduRecord, objectRecord}
+use Rattle.table.specs.Rules.{signedOf}
 use Rattle.table.specs.Check.{Right}
 use Rattle.table.proofs.Accepted.{accepted-right, usable}
 use Rattle.state.specs.Layout.{slotAt}
+use Rattle.state.proofs.Ready.{ready-kept}
 use Rattle.calls.specs.Answers.{Outcome}
 use Rattle.calls.proofs.Records.{object-there, object-kind, ipdu-short}
 use Rattle.layer.specs.Admission.{workingMemory}
@@ -25,7 +28,7 @@ use Rattle.layer.specs.Step.{Call, start, indication, step}
 use Rattle.trace.specs.Book.{Entry, Book, unopened, sends, lastOf, opened, advance, bookAfter, bookBit}
 use Rattle.trace.specs.Actions.{Action, single, group, leaves, groupSends, advanceBy, memoryAfterAll, bookAfterAll}
 use Rattle.trace.specs.Demand3.{Typed, ActionsTyped, done, wordOf, frame, names, CallKept, AllKept, ActionKept, ActionsKept}
-use Rattle.trace.specs.RoundTrip.{readingIn, LastReads, OlderReads, ipduBytes, StoredLast, StoredEarlier, FramesRead, AllRead, ActionRead, ActionsRead, Runs, memoryOf, ActionsRun}
+use Rattle.trace.specs.RoundTrip.{readingIn, readingOf, LastReads, LastExact, OlderReads, ipduBytes, StoredLast, StoredExactly, StoredEarlier, FramesRead, AllRead, ActionRead, ActionsRead, Runs, memoryOf, ActionsRun}
 use Rattle.trace.specs.RoundTrip.{Takes, Arrived, Uncovered, Like}
 use Rattle.trace.proofs.Entries.{Full, advance-full, started-full, action-full, actions-full}
 use Rattle.trace.proofs.Covered.{last-sent, older-reads, whole-reads, last-reads}
@@ -112,12 +115,32 @@ module _ (t : List ℕ) (bt : Bytes t) (xs : List Action) (y : ActionsTyped xs) 
       let s = last-sent t (counts t) k i es (full .only) is-last in
       last-reads t (counts t) right k in-table es full bytes (bits i (s .0) (s .1)) i is-last
 
+  exact : LastExact t (counts t) es k bytes
+  exact i is-last =
+      let c = counts t in
+      let r = objectRecord t (c .ipdus) i in
+      let a = start-accepted t m e in
+      let s = last-sent t c k i es (full .only) is-last .0 in
+      let low = object-there t c sending i s in
+      let slot = usable t c right i low .slot in
+      let agrees = actions-follow t c (a .table) bt xs y (opened t c) (step t start m .memory) (start-follows t c (a .table) bt m (a .long)) .agrees in
+      let held = ready-kept t c (workingMemory (memoryAfterAll t (single start ∷ xs) m)) (agrees .ready) i low .old in
+      let small = rw (agrees .old i low (object-kind t c sending i s)) at held in
+      (
+        λ fits. last i is-last ∙ fits-back (signedOf (r .order)) (r .size) (lastOf i es) (slot .some) (slot .most) small fits,
+        λ back. back-fits (signedOf (r .order)) (r .size) (lastOf i es) (slot .some) (slot .most) small (sym (last i is-last) ∙ back),
+      )
+
   older : OlderReads t (counts t) es k bytes
   older i n s at = older-reads t (counts t) right k in-table es full bytes (bits i s at) i n s at
 
 -- the reading stored last gives its low bits
 pub stored-last : (t : List ℕ) → Bytes t → StoredLast t
 stored-last t bt = last t bt
+
+-- and these are the value exactly where it fits its bits
+pub stored-exactly : (t : List ℕ) → Bytes t → StoredExactly t
+stored-exactly t bt = exact t bt
 
 -- an older one gives its own bit at each place that no value kept since covers
 pub stored-earlier : (t : List ℕ) → Bytes t → StoredEarlier t
@@ -149,7 +172,7 @@ call-hands : (t : List ℕ) → Bytes t → (xs : List Call) (m : List ℕ) → 
     → (k i : ℕ) → names (wordOf call (step t call (memoryOf t xs m) .answer)) k → sends t (counts t) i ≡ true → objectRecord t (counts t .ipdus) i .ipdu ≡ k
     → Uncovered t (counts t) i (advance t (counts t) (bookAfter t (counts t) (opened t (counts t)) xs) call .entries)
     → Handed t k i
-    (lastOf i (advance t (counts t) (bookAfter t (counts t) (opened t (counts t)) xs) call .entries) % 2 ^ (objectRecord t (counts t .ipdus) i .size))
+    (readingOf (objectRecord t (counts t .ipdus) i) (lastOf i (advance t (counts t) (bookAfter t (counts t) (opened t (counts t)) xs) call .entries)))
     (frame t k (step t call (memoryOf t xs m) .area))
 call-hands t bt xs m r call y k i e s at free =
     let c = counts t in
@@ -179,7 +202,7 @@ pub reading-round-trip : (t : List ℕ) → Bytes t → (xs : List Call) (m : Li
     → Uncovered t (counts t) i (advance t (counts t) (bookAfter t (counts t) (opened t (counts t)) xs) call .entries)
     → (u : List ℕ) → Bytes u → (ys : List Call) (n : List ℕ) → Runs u ys n → (j : ℕ) → objectRecord u (counts u .ipdus) j .ipdu < counts u .ipdus
     → Like t (objectRecord t (counts t .ipdus) i) u (objectRecord u (counts u .ipdus) j) → (v : ℕ)
-    → v ≡ lastOf i (advance t (counts t) (bookAfter t (counts t) (opened t (counts t)) xs) call .entries) % 2 ^ (objectRecord t (counts t .ipdus) i .size)
+    → v ≡ readingOf (objectRecord t (counts t .ipdus) i) (lastOf i (advance t (counts t) (bookAfter t (counts t) (opened t (counts t)) xs) call .entries))
     → Takes u j v (memoryOf u ys n)
     → Arrived u j v (memoryOf u ys n)
     (step u (indication (objectRecord u (counts u .ipdus) j .ipdu) true (frame t k (step t call (memoryOf t xs m) .area))) (memoryOf u ys n) .memory)

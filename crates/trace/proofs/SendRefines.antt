@@ -156,7 +156,7 @@ module _ (t : List ℕ) (c : Counts) (b : Book) (m : List ℕ) (a : Refines t c 
   -- the layer's filter judges as the book does
   pub judge-is : judge t c m (a .ready) i is v small area ≡ keeps t c b i v
   unfolding objectOf
-  judge-is = ap₂ (λ (old n : ℕ). passes (object t c i .filter) v old n) (first-agrees .old i low one) (first-agrees .count i low one)
+  judge-is = ap₂ (λ (old n : ℕ). passes (object t c i .signed) (object t c i .filter) v old n) (first-agrees .old i low one) (first-agrees .count i low one)
 
   count-own : row .occurrence ≡ nextCounts t c i (b .counts) i
   unfolding objectOf

@@ -89,4 +89,4 @@ filters-keep t bt xs typed m went i v is =
     let f = actions-follow t c (a .table) bt xs typed (opened t c) (step t start m .memory) (start-follows t c (a .table) bt m (a .long)) in
     let low = object-there t c sending i is in
     let one = object-kind t c sending i is in
-    ap₂ (λ (old n : ℕ). passes (object t c i .filter) v old n) (f .agrees .old i low one) (f .agrees .count i low one)
+    ap₂ (λ (old n : ℕ). passes (object t c i .signed) (object t c i .filter) v old n) (f .agrees .old i low one) (f .agrees .count i low one)

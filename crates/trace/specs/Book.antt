@@ -12,7 +12,7 @@ use Rattle.filter.specs.Filters.{passes, nextCount}
 use Rattle.table.specs.declared.Counts.{Counts}
 use Rattle.table.specs.declared.ObjectRecord.{ObjectRecord}
 use Rattle.table.specs.Records.{sending, objectRecord}
-use Rattle.table.specs.Rules.{orderOf, recordFilter}
+use Rattle.table.specs.Rules.{orderOf, signedOf, recordFilter}
 use Rattle.layer.specs.Step.{Call, Told, toldStart, toldStop, toldSend, toldInitialise, toldNothing, lentBytes, describe}
 use Rattle.state.specs.Layout.{areaSize}
 
@@ -54,7 +54,7 @@ lastOf i [] = 0
 lastOf i (e ∷ es) = pick (eqb (e .object) i) (e .value) (lastOf i es)
 
 abbrev pub judges : ObjectRecord → ℕ → ℕ → ℕ → Bool
-judges r new old count = passes (recordFilter r) new old count
+judges r new old count = passes (signedOf (r .order)) (recordFilter r) new old count
 
 abbrev pub keeps : List ℕ → Counts → Book → ℕ → ℕ → Bool
 keeps t c b i v = judges (objectRecord t (c .ipdus) i) v (lastOf i (b .entries)) (b .counts i)

@@ -1,18 +1,18 @@
--- Demand 2 over lists of calls, with W-205: what the bytes of an I-PDU and the frames that are handed over unpack to, and what a
+-- Demand 2 over lists of calls, with W-205 and W-207: what the bytes of an I-PDU and the frames that are handed over unpack to, and what a
 -- receiver then gives.
 -- Assumes nothing.
 use mathlib.Core.Bool.{Bool, true, false, not, _&&_, _||_}
 use mathlib.Core.List.{List, [], _∷_, _++_}
 use mathlib.Core.Path.{_≡_}
-use Prim.Native.Nat.{ℕ, _%_, _^_, _<_}
+use Prim.Native.Nat.{ℕ, _<_}
 use lib.Dec.{eqb}
 use Rattle.memory.specs.Bytes.{part}
 use Rattle.memory.specs.Search.{pick}
-use Rattle.bits.specs.Bits.{bit, place, unpacked}
+use Rattle.bits.specs.Bits.{bit, place, unpacked, extended, readBack, fitsBits}
 use Rattle.table.specs.declared.Counts.{Counts}
 use Rattle.table.specs.declared.ObjectRecord.{ObjectRecord}
 use Rattle.table.specs.Records.{receiving, counts, ipduRecord, objectRecord}
-use Rattle.table.specs.Rules.{orderOf}
+use Rattle.table.specs.Rules.{orderOf, signedOf}
 use Rattle.state.specs.Layout.{slotAt, objectState}
 use Rattle.message.specs.Objects.{object, passesFilter}
 use Rattle.queue.specs.Queues.{waiting}
@@ -27,8 +27,17 @@ use Rattle.trace.specs.Demand3.{AllTyped, ActionsTyped, done, wordOf, fr
 
 -- ---- readings in the bytes of an I-PDU
 
+-- a signed one has its top bit copied upwards
 abbrev pub readingIn : ObjectRecord → List ℕ → ℕ
-readingIn r f = unpacked (orderOf (r .order)) (r .start) (r .size) f
+readingIn r f = extended (signedOf (r .order)) (r .size) (unpacked (orderOf (r .order)) (r .start) (r .size) f)
+
+-- what a value of the object gives when it is stored and unpacked: its low bits, extended in the same way
+abbrev pub readingOf : ObjectRecord → ℕ → ℕ
+readingOf r v = readBack (signedOf (r .order)) (r .size) v
+
+-- the value fits the object's bits
+abbrev pub Fitting : ObjectRecord → ℕ → Type 0
+Fitting r v = fitsBits (signedOf (r .order)) (r .size) v ≡ true
 
 -- object i's is the latest of the values kept in I-PDU k
 abbrev pub storedLast : List ℕ → Counts → ℕ → ℕ → List Entry → Bool
@@ -47,7 +56,14 @@ messagePlace r n = place (orderOf (r .order)) (r .start) n
 -- the reading stored last in I-PDU k, unpacked from the bytes f, gives the low bits of its value
 abbrev pub LastReads : List ℕ → Counts → List Entry → ℕ → List ℕ → Type 0
 LastReads t c es k f =
-    (i : ℕ) → storedLast t c k i es ≡ true → readingIn (objectRecord t (c .ipdus) i) f ≡ lastOf i es % 2 ^ (objectRecord t (c .ipdus) i .size)
+    (i : ℕ) → storedLast t c k i es ≡ true → readingIn (objectRecord t (c .ipdus) i) f ≡ readingOf (objectRecord t (c .ipdus) i) (lastOf i es)
+
+-- which is the value itself exactly where that fits its bits (W-207)
+abbrev pub LastExact : List ℕ → Counts → List Entry → ℕ → List ℕ → Type 0
+LastExact t c es k f =
+    (i : ℕ) → storedLast t c k i es ≡ true
+    → (Fitting (objectRecord t (c .ipdus) i) (lastOf i es) → readingIn (objectRecord t (c .ipdus) i) f ≡ lastOf i es)
+    × (readingIn (objectRecord t (c .ipdus) i) f ≡ lastOf i es → Fitting (objectRecord t (c .ipdus) i) (lastOf i es))
 
 -- any reading of it gives its own bit at each place that no value kept since covers
 abbrev pub OlderReads : List ℕ → Counts → List Entry → ℕ → List ℕ → Type 0
@@ -67,6 +83,9 @@ Stored t Reads =
 
 abbrev pub StoredLast : List ℕ → Type 0
 StoredLast t = Stored t (LastReads t (counts t))
+
+abbrev pub StoredExactly : List ℕ → Type 0
+StoredExactly t = Stored t (LastExact t (counts t))
 
 abbrev pub StoredEarlier : List ℕ → Type 0
 StoredEarlier t = Stored t (OlderReads t (counts t))
