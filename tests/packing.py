@@ -1,5 +1,5 @@
 #!/usr/bin/env python3
-"""Packing after OSEK COM 3.0.3, section 2.4, written bit by bit from the document and not from the crates.
+"""Packing after OSEK COM 3.0.3, section 2.4, and W-207's signed messages, written bit by bit from the documents and not from the crates.
 
 packing.py            compares what it works out with crates/pack_frames/stdout, line by line
 packing.py --print    prints what it works out
@@ -39,6 +39,11 @@ def unpack(frame, order, start, size):
     return sum((frame[byte] >> bit & 1) << i for i, (byte, bit) in enumerate(places(order, start, size)))
 
 
+def signed(message, size):
+    """A message of so many bits as a value of 32, two's complement: its top bit stands for minus its weight."""
+    return (message - (message >> size - 1 << size)) % 2**32
+
+
 def cases():
     for case, order, start, value in [(1, "little", 13, 2748), (2, "big", 18, 2748), (3, "little", 13, 6844)]:
         frame = pack([0] * 4, order, start, 12, value)
@@ -52,6 +57,10 @@ def cases():
     ]:
         fits = "fit" if allowed(order, start, size, length) else "do not fit"
         yield f"case {case}: {size} bits {fits}"
+    for size, value, integer in [(12, 0x800, -2048), (12, 0xFFF, -1), (12, 0x7FF, 2047), (1, 1, -1), (32, 0x80000000, -2147483648)]:
+        assert signed(value, size) == integer % 2**32
+        backs = [signed(unpack(pack([0] * 4, *place, size, value), *place, size), size) for place in (("little", 0), ("big", 24))]
+        yield f"signed {size} bits {value:x}: " + " ".join(f"{back:08x}" for back in backs)
 
 
 def sweep(length, order):
@@ -63,16 +72,20 @@ def sweep(length, order):
 
     for start in range(81):
         for size in range(34):
-            frame, back = [0xA5] * 9, 4294967290
+            frame, back, below = [0xA5] * 9, 4294967290, 4294967290
             value = (start * 2654435761 + size * 40503 + 1) % 2**32
             if allowed(order, start, size, length):
                 packed += 1
                 frame[:length] = pack(frame[:length], order, start, size, value)
                 back = unpack(frame[:length], order, start, size)
                 assert back == value % 2**size
+                below = signed(back, size)
+                fits = -(2 ** (size - 1)) <= (value ^ 2**31) - 2**31 < 2 ** (size - 1)
+                assert (below == value) == fits, "read back exactly where it fits"
             for byte in frame:
                 mix(byte)
             mix(back)
+            mix(below)
     return f"length {length} {order}: {packed} places, digest {digest}"
 
 
@@ -94,6 +107,8 @@ def pairs():
         assert not kept[1] or read[1] == (2**32 - 1 - value) % 2 ** last[2]
         assert not kept[0] or all(c or read[0] >> i & 1 == value >> i & 1 for i, c in enumerate(covered))
         sharing += kept[0] and any(covered)
+        if kept[1]:
+            read[1] = signed(read[1], last[2])
         words = [int.from_bytes(frame[:4], "little"), int.from_bytes(frame[4:], "little")]
         for x in kept + words + read:
             digest = (digest * 31 + x) % 4294967291

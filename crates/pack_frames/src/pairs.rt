@@ -1,5 +1,5 @@
 // Two readings that begin in one byte of a frame of 8 bytes, packed one after the other: every start bit of both, every two
-// orders, eight pairs of sizes. A line with a digest of each answer, frame and value unpacked.
+// orders, eight pairs of sizes. A line with a digest of each answer, frame and value unpacked, the last one as signed.
 use super::sweep::mix;
 use super::sweep::mix_value;
 use bits::BitSize;
@@ -39,11 +39,11 @@ fn pair(digest: u64, n: u32) -> u64 {
         beside,
         (4294967295 - value) as u32,
     );
-    let low = bits::unpack(&frame, Order::Little, 0, BitSize(32));
-    let high = bits::unpack(&frame, Order::Little, 32, BitSize(32));
+    let low = bits::unpack(&frame, Order::Little, false, 0, BitSize(32));
+    let high = bits::unpack(&frame, Order::Little, false, 32, BitSize(32));
     let d = mix_value(mix_value(mix_answer(mix_answer(digest, a), b), low), high);
-    let older = bits::unpack(&frame, first, start, size);
-    let last = bits::unpack(&frame, second, other, beside);
+    let older = bits::unpack(&frame, first, false, start, size);
+    let last = bits::unpack(&frame, second, true, other, beside);
     mix_value(mix_value(d, older), last)
 }
 

@@ -1,5 +1,5 @@
 // Every start bit 0..80 and every size 0..33 in a frame of one length and order: a line with how many places were packed,
-// and a digest of each answer, frame and value unpacked.
+// and a digest of each answer, frame and value unpacked, as it stands and as signed.
 use bits::BitSize;
 use bits::Order;
 use bits::Packing;
@@ -59,11 +59,12 @@ fn one(t: Tally, length: usize, order: Order, start: u32, size: u32) -> Tally {
         BitSize(size),
         value as u32,
     );
-    let back = bits::unpack(&frame[..length], order, start, BitSize(size));
+    let back = bits::unpack(&frame[..length], order, false, start, BitSize(size));
+    let signed = bits::unpack(&frame[..length], order, true, start, BitSize(size));
     let next = counted(t, answer);
     Tally {
         packed: next.packed,
-        digest: mix_value(mix_frame(next.digest, &frame), back),
+        digest: mix_value(mix_value(mix_frame(next.digest, &frame), back), signed),
     }
 }
 

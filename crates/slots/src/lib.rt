@@ -5,7 +5,8 @@ ghost use mathlib.Core.Path.{_≡_};
 ghost use Prim.Native.Nat.{_≤_, _<_};
 ghost use lib.ListN.{length};
 ghost use Rattle.memory.specs.Bytes.{part, replaced};
-ghost use Rattle.bits.specs.Bits.{packed, unpacked};
+ghost use mathlib.Core.Bool.{false};
+ghost use Rattle.bits.specs.Bits.{packed, unpacked, extended};
 ghost use Rattle.bits.specs.Slots.{position, InSlot};
 ghost use Rattle.slots.specs.Orders.{orderOf};
 
@@ -45,7 +46,7 @@ pub extern "C" fn birnenschloss_pack_slot(
 #[no_mangle]
 pub extern "C" fn birnenschloss_unpack_slot(slot: &[u8], order: u32, at: u32, size: u32) -> u32
     requires { ⌜ (8 ≤ length (now slot)) × InSlot at size ⌝ }
-    ensures { λ r. ⌜ r ≡ unpacked (orderOf order) (position (orderOf order) at) size (part 0 8 (now (slot .entry))) ⌝ }
+    ensures { λ r. ⌜ r ≡ extended false size (unpacked (orderOf order) (position (orderOf order) at) size (part 0 8 (now (slot .entry)))) ⌝ }
 {
-    bits::unpack_slot(slot, 0, order_of(order), at, BitSize(size))
+    bits::unpack_slot(slot, 0, order_of(order), false, at, BitSize(size))
 }
