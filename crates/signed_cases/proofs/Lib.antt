@@ -1,0 +1,2 @@
+pub mod SignedCases
+pub mod SignedPins
