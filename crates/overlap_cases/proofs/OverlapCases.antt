@@ -8,7 +8,7 @@ use Prim.Native.Nat.{ℕ, _<_}
 use native.Mathlib.Omega.{arith}
 use lib.ListN.{replicate}
 use Rattle.memory.specs.Bytes.{Bytes, value, bytesOf, part, numberAt}
-use Rattle.bits.specs.Bits.{bit, frameBit, place, owns}
+use Rattle.bits.specs.Bits.{bit, frameBit, place, owns, extended, readBack}
 use Rattle.memory.specs.Integers.{integer, lessThan}
 use Rattle.filter.specs.Filters.{passes, nextCount, filterOf}
 use Rattle.table.specs.Records.{counts, ipduRecord, objectRecord}
@@ -71,7 +71,7 @@ stored = ipduBytes table 0 (memoryAfterAll table (single start ∷ xs) m)
 
 -- door 1 was stored last, and is open
 pub door-reads : readingIn (objectRecord table (counts table .ipdus) 1) stored ≡ 1
-unfolding value bytesOf part numberAt integer lessThan passes nextCount filterOf counts objectRecord advance
+unfolding value bytesOf part numberAt integer lessThan extended readBack passes nextCount filterOf counts objectRecord advance
 door-reads = stored-last table bytes xs typed m started 0 (omega arith) 1 refl
 
 -- the number is older; at the place of its bit 1 it is covered, and nowhere else
