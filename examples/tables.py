@@ -8,7 +8,7 @@ import struct
 
 SEND, RECEIVE, NONE = 1, 2, 255
 DIRECT, PERIODIC, MIXED = 0, 1, 2
-LITTLE, BIG = 0, 1
+LITTLE, BIG, SIGNED_LITTLE, SIGNED_BIG = 0, 1, 2, 3
 TRIGGERED, PENDING = 0, 1
 
 # Filters: the number, then the constants that it needs.
@@ -19,6 +19,10 @@ ABOVE = (10,)  # above the value that was kept last
 
 def between(least, greatest):
     return (8, least, greatest)
+
+
+def outside(least, greatest):
+    return (9, least, greatest)
 
 
 def one_in(period, offset):
@@ -34,8 +38,10 @@ def received_ipdu(length, deadline=0, first_deadline=0):
 
 
 def record(kind, ipdu, sender, start, bits, order, transfer, depth, rule, initial):
+    """A value below zero stands as its 32 bits."""
     number, first, second = (rule + (0, 0))[:3]
-    return struct.pack("<12B5I", kind, ipdu, sender, start, bits, order, transfer, depth, number, 0, 0, 0, initial, first, second, 0, 0)
+    values = [value % 2**32 for value in (initial, first, second)]
+    return struct.pack("<12B5I", kind, ipdu, sender, start, bits, order, transfer, depth, number, 0, 0, 0, *values, 0, 0)
 
 
 def sent(ipdu, start, bits, order=LITTLE, transfer=TRIGGERED, rule=ALWAYS, initial=0):
@@ -46,9 +52,9 @@ def received(ipdu, start, bits, order=LITTLE, depth=0, rule=ALWAYS, initial=0):
     return record(RECEIVE, ipdu, NONE, start, bits, order, TRIGGERED, depth, rule, initial)
 
 
-def inside(sender, depth=0, rule=ALWAYS, initial=0):
+def inside(sender, order=LITTLE, depth=0, rule=ALWAYS, initial=0):
     """A receive object that gets what the object `sender` sends."""
-    return record(RECEIVE, NONE, sender, 0, 32, LITTLE, TRIGGERED, depth, rule, initial)
+    return record(RECEIVE, NONE, sender, 0, 32, order, TRIGGERED, depth, rule, initial)
 
 
 def table(ipdus, objects):
@@ -80,11 +86,22 @@ TABLES = {
         + [sent(1, start=0, bits=8, rule=ABOVE, initial=0x5A)]                   # 9: I-PDU 1 as a number
         + [sent(1, start=bit, bits=1, initial=0xA5 >> bit & 1) for bit in range(8)],  # 10 to 17: its doors
     ),
-    # A climate van. Humidity is in permille; both sensors drop equal values.
+    # The examples of W-207: messages that are read as signed, the first also as it stands; and one that is sent where it is above the last.
+    "freezer": table(
+        [received_ipdu(8), sent_ipdu(4)],
+        [
+            received(0, start=0, bits=12, order=SIGNED_LITTLE),                             # 0: 12 bits
+            received(0, start=26, bits=12, order=SIGNED_BIG),                               # 1: 12 bits, big
+            received(0, start=63, bits=1, order=SIGNED_LITTLE),                             # 2: one bit
+            received(0, start=0, bits=12),                                                  # 3: object 0's bits with no sign
+            sent(1, start=13, bits=12, order=SIGNED_LITTLE, rule=ABOVE, initial=-5),        # 4: above the last
+        ],
+    ),
+    # A climate van. Humidity is in permille; both sensors drop equal values. The freezer is in degrees.
     "van": table(
         [
             sent_ipdu(4, delay=3, deadline=5),                          # 0: humidity of two sensors
-            sent_ipdu(3, mode=MIXED, period=4, offset=2, deadline=10),  # 1: the door and a case reading
+            sent_ipdu(3, mode=MIXED, period=4, offset=2, deadline=10),  # 1: the freezer, the door and a case reading
             received_ipdu(4, deadline=5, first_deadline=8),             # 2: what the case's own controller says
         ],
         [
@@ -95,6 +112,9 @@ TABLES = {
             received(2, start=0, bits=16, depth=2),                                              # 4: a queue of case readings
             received(2, start=24, bits=10, order=BIG, rule=between(300, 700), initial=500),      # 5: the humidity that is asked for
             inside(sender=0, initial=450),                                                       # 6: a display of the front humidity
+            sent(1, start=0, bits=7, order=SIGNED_LITTLE, rule=between(-40, 10), initial=-18),   # 7: the freezer
+            inside(sender=7, order=SIGNED_LITTLE, initial=-18),                                  # 8: a display of the freezer
+            received(2, start=18, bits=6, order=SIGNED_LITTLE, rule=outside(-25, -15), initial=-20),  # 9: the case's freezer, where it alarms
         ],
     ),
 }
