@@ -1,6 +1,6 @@
 -- Laws of signed messages (W-207): what the extension of a message comes to, that it fits 32 bits, and when a stored value is read back.
 -- Assumes nothing.
-use mathlib.Core.Bool.{Bool, true, false, not, _&&_, _||_}
+use mathlib.Core.Bool.{Bool, true, false, not, _||_}
 use mathlib.Core.List.{List}
 use mathlib.Core.Logic.{⊎-elim}
 use mathlib.Core.Path.{_≡_, refl, sym, ap, _∙_}
@@ -12,9 +12,8 @@ use lib.Dec.{leb, ltb, eqb, leb·suc-suc}
 use lib.IntN.{pos, negsuc, negℤ}
 use lib.ListN.{length}
 use lib.Pow.{pow-pos, pow-mono, high-ones}
-use lib.Signed.{leZ, ltZ}
+use lib.Signed.{leZ}
 use Rattle.memory.specs.Search.{pick}
-use Rattle.memory.specs.Integers.{integer}
 use Rattle.memory.proofs.Tests.{lt-or-le, true-not-false}
 use Rattle.memory.proofs.IntegerLaws.{integer-low, integer-high}
 use Rattle.bits.specs.declared.Order.{Order}

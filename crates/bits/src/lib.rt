@@ -110,14 +110,7 @@ pub fn pack_slot(m: &mut [u8], base: usize, order: Order, at: u32, size: BitSize
 }
 
 // `unpack` of that slot.
-pub fn unpack_slot(
-    m: &[u8],
-    base: usize,
-    order: Order,
-    signed: bool,
-    at: u32,
-    size: BitSize,
-) -> u32
+pub fn unpack_slot(m: &[u8], base: usize, order: Order, signed: bool, at: u32, size: BitSize) -> u32
     requires { ⌜ (base + 8 ≤ length (now m)) × InSlot at (size .0) ⌝ }
     ensures { λ r. ⌜ r ≡ extended signed (size .0) (unpacked order (position order at) (size .0) (part base 8 (now (m .entry)))) ⌝ }
 {

@@ -1,10 +1,10 @@
 -- Laws of values that are signed or not: which integer a value means, that ranks stand in the order of the integers, and the text of a value.
 -- Assumes nothing.
-use mathlib.Core.Bool.{Bool, true, false, not, _&&_}
+use mathlib.Core.Bool.{Bool, true, false, not}
 use mathlib.Core.List.{List, _∷_}
-use mathlib.Core.Logic.{⊎-elim}
-use mathlib.Core.Path.{_≡_, refl, sym, ap, ap₂, _∙_}
-use Prim.Native.Nat.{ℕ, suc, _+_, _-_, _%_, _^_, _≤_, _<_}
+use mathlib.Core.Logic.{_⊎_, inl, inr, ⊎-elim}
+use mathlib.Core.Path.{_≡_, refl, sym, ap, _∙_}
+use Prim.Native.Nat.{ℕ, suc, _+_, _-_, _^_, _≤_, _<_}
 use native.Mathlib.Omega.{arith}
 use borrow.Author.Tests.{leb-true, leb-false, lt-ltb, le-ltb, le-leb, lt-leb}
 use lib.Dec.{leb, ltb}
@@ -13,7 +13,7 @@ use lib.ListN.{length, set}
 use lib.Signed.{leZ, ltZ}
 use Rattle.memory.specs.Texts.{Put, blank, decimal, numberField}
 use Rattle.memory.specs.Integers.{isNegative, integer, atMost, lessThan, rank, minus, integerText, integerField}
-use Rattle.memory.proofs.Tests.{lt-or-le, and-split, true-or-false}
+use Rattle.memory.proofs.Tests.{lt-or-le, true-or-false}
 use Rattle.memory.proofs.Decimals.{decimal-within}
 use Rattle.memory.proofs.Puts.{put-byte}
 
@@ -91,6 +91,56 @@ not-leZ (negsuc a) (negsuc b) = not-leb b a
 pub not-at-most : (signed : Bool) (a b : ℕ) → not (atMost signed b a) ≡ lessThan signed a b
 unfolding atMost lessThan
 not-at-most signed a b = not-leZ (integer signed a) (integer signed b)
+
+leZ-itself : (x : ℤ) → leZ x x ≡ true
+leZ-itself (pos a) = le-leb a a (omega arith)
+leZ-itself (negsuc a) = le-leb a a (omega arith)
+
+leZ-trans : (x y z : ℤ) → leZ x y ≡ true → leZ y z ≡ true → leZ x z ≡ true
+leZ-trans (pos a) (pos b) (pos c) h k = le-leb a c (omega (arith, leb-true a b h, leb-true b c k))
+leZ-trans (pos a) (pos b) (negsuc c) h k = k
+leZ-trans (pos a) (negsuc b) z h k = let clash : false ≡ true = h in cc
+leZ-trans (negsuc a) y (pos c) h k = refl
+leZ-trans (negsuc a) (pos b) (negsuc c) h k = let clash : false ≡ true = k in cc
+leZ-trans (negsuc a) (negsuc b) (negsuc c) h k = le-leb c a (omega (arith, leb-true b a h, leb-true c b k))
+
+leZ-other : (x y : ℤ) → leZ y x ≡ false → leZ x y ≡ true
+leZ-other (pos a) (pos b) h = le-leb a b (omega (arith, leb-false b a h))
+leZ-other (pos a) (negsuc b) h = sym h
+leZ-other (negsuc a) (pos b) h = refl
+leZ-other (negsuc a) (negsuc b) h = le-leb b a (omega (arith, leb-false a b h))
+
+rank-same : (signed : Bool) (a b : ℕ) → a < 2 ^ 32 → b < 2 ^ 32 → rank signed a ≡ rank signed b → a ≡ b
+unfolding rank
+rank-same true a b fits also e = omega (arith, fits, also, e)
+rank-same false a b fits also e = e
+
+-- the order's laws; of two values of 32 bits that are each at most the other there is one
+module _ (signed : Bool) where
+  pub at-most-itself : (a : ℕ) → atMost signed a a ≡ true
+  unfolding atMost
+  at-most-itself a = leZ-itself (integer signed a)
+
+  pub at-most-trans : (a b c : ℕ) → atMost signed a b ≡ true → atMost signed b c ≡ true → atMost signed a c ≡ true
+  unfolding atMost
+  at-most-trans a b c = leZ-trans (integer signed a) (integer signed b) (integer signed c)
+
+  pub at-most-same : (a b : ℕ) → a < 2 ^ 32 → b < 2 ^ 32 → atMost signed a b ≡ true → atMost signed b a ≡ true → a ≡ b
+  at-most-same a b fits also h k =
+      let low = leb-true (rank signed a) (rank signed b) (rank-at-most signed a b fits also ∙ h) in
+      let high = leb-true (rank signed b) (rank signed a) (rank-at-most signed b a also fits ∙ k) in
+      rank-same signed a b fits also (omega (arith, low, high))
+
+  at-most-other : (a b : ℕ) → atMost signed b a ≡ false → atMost signed a b ≡ true
+  unfolding atMost
+  at-most-other a b = leZ-other (integer signed a) (integer signed b)
+
+  pub less-or-not : (a b : ℕ) → ((atMost signed a b ≡ true) × (lessThan signed a b ≡ true)) ⊎ ((atMost signed b a ≡ true) × (lessThan signed a b ≡ false))
+  less-or-not a b =
+      ⊎-elim
+      (λ (e : atMost signed b a ≡ true). inr (e, sym (not-at-most signed a b) ∙ ap not e))
+      (λ (e : atMost signed b a ≡ false). inl (at-most-other a b e, sym (not-at-most signed a b) ∙ ap not e))
+      (true-or-false (atMost signed b a))
 
 -- ---- the text
 

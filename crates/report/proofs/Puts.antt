@@ -1,12 +1,16 @@
 -- Texts that are put one behind the other into a buffer. The laws ask for plain values, so that a search finds them.
 -- Assumes nothing.
+use mathlib.Core.Bool.{Bool}
 use mathlib.Core.List.{List, [], _∷_, _++_}
 use mathlib.Core.Path.{_≡_}
-use Prim.Native.Nat.{ℕ, _+_, _≤_, _<_}
+use Prim.Native.Nat.{ℕ, suc, _+_, _^_, _≤_, _<_}
 use native.Mathlib.Omega.{arith}
+use lib.IntN.{ℤ, pos, negsuc}
 use lib.ListN.{length, set, length-set}
 use Rattle.memory.specs.Texts.{lineFeed, digitOf, decimal, numberField, Put}
+use Rattle.memory.specs.Integers.{integer, integerField}
 use Rattle.memory.proofs.Decimals.{decimal-length}
+use Rattle.memory.proofs.IntegerLaws.{integer-length}
 use Rattle.memory.proofs.Puts.{put-append, put-length, put-byte, number-end}
 use Rattle.calls.specs.declared.Answer.{Answer}
 use Rattle.calls.specs.declared.Answer.the-variants.{Done, WrongId, WrongLength, Limit, NoMessage, WrongTable, WrongMemory, Stopped, NotRequested}
@@ -47,13 +51,22 @@ put-number-of a same first rest = put-append (rw same at first) rest
 
 -- ---- a value and a line number
 
--- ` val`, whose codes are 32, 118, 97 and 108, and a number of at most 20 digits
-module _ (v at e : ℕ) (m n : List ℕ) (put : Put (at + 4) (numberField v) (withFour at 32 118 97 108 m) n e) where
-  pub value-room : at + 26 ≤ length m → e < length n
-  value-room room = omega (arith, number-end v put, put-length put, four-length at 32 118 97 108 m)
+-- a blank, a minus and 20 digits at the most, whatever the integer
+pub field-length : (z : ℤ) → length (integerField z) ≤ 22
+field-length (pos n) = omega (arith, decimal-length n)
+field-length (negsuc n) = omega (arith, decimal-length (suc n))
 
-  pub value-put : {f : ℕ} {p : List ℕ} → Put e (lineFeed ∷ []) n p f → Put at ((valName ++ numberField v) ++ lineFeed ∷ []) m p f
-  value-put end = put-append (put-four put) end
+-- ` val`, whose codes are 32, 118, 97 and 108, and an integer
+module _ (signed : Bool) (v at : ℕ) (m : List ℕ) where
+  pub value-fits : v < 2 ^ 32 → at + 26 ≤ length m → at + 4 + length (integerField (integer signed v)) ≤ length (withFour at 32 118 97 108 m)
+  value-fits fits room = omega (arith, integer-length signed v fits, four-length at 32 118 97 108 m)
+
+  module _ (e : ℕ) (n : List ℕ) (put : Put (at + 4) (integerField (integer signed v)) (withFour at 32 118 97 108 m) n e) where
+    pub value-room : v < 2 ^ 32 → at + 26 ≤ length m → e < length n
+    value-room fits room = omega (arith, put .behind, integer-length signed v fits, put-length put, four-length at 32 118 97 108 m)
+
+    pub value-put : {f : ℕ} {p : List ℕ} → Put e (lineFeed ∷ []) n p f → Put at ((valName ++ integerField (integer signed v)) ++ lineFeed ∷ []) m p f
+    value-put end = put-append (put-four put) end
 
 -- 9 and a number of at most 20 digits
 module _ (n : ℕ) {at e : ℕ} {m p : List ℕ} (room : at + longestLine ≤ length m) (first : Put at (digitOf 9 ∷ []) m p e) where

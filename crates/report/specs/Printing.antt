@@ -1,5 +1,5 @@
 -- W-201: the line that is printed for a call: its number, then the value that a receive or marks gave, then each request with its bytes
--- as capital hex digits, by rising I-PDU. Assumes nothing.
+-- as capital hex digits, by rising I-PDU. The value of a signed object is printed as signed (W-207). Assumes nothing.
 use mathlib.Core.Bool.{Bool, true, false, _||_}
 use mathlib.Core.List.{List, [], _∷_, _++_}
 use Prim.Native.Nat.{ℕ, zero, suc, _+_, _*_, _/_, _%_, _^_, _≤_, _<_}
@@ -8,7 +8,9 @@ use lib.ListN.{length}
 use Rattle.memory.specs.Bytes.{part}
 use Rattle.memory.specs.Search.{pick}
 use Rattle.memory.specs.Texts.{blank, lineFeed, digitOf, numberField}
+use Rattle.memory.specs.Integers.{integer, integerField}
 use Rattle.table.specs.Records.{mostIpdus, ipduBase, counts, ipduRecord}
+use Rattle.config.specs.Decode.{isSigned}
 use Rattle.calls.specs.declared.Answer.{Answer}
 use Rattle.calls.specs.Answers.{numberOf, valueOf}
 use Rattle.script.specs.declared.Ask.{Ask}
@@ -35,25 +37,26 @@ lends Tick = true
 
 -- ---- what is printed behind the status
 
-abbrev pub shownValue : Bool → Answer → Shown
-shownValue gives a = pick gives (Value (valueOf a)) StatusAlone
+abbrev pub shownValue : Bool → Bool → Answer → Shown
+shownValue gives signed a = pick gives (Value signed (valueOf a)) StatusAlone
 
-abbrev pub shownAsk : Ask → Answer → Shown
-shownAsk Receive a = shownValue (eqb (numberOf a) 0 || eqb (numberOf a) 3) a
-shownAsk Status a = StatusAlone
-shownAsk Marks a = shownValue (eqb (numberOf a) 0) a
-shownAsk ClearMarks a = StatusAlone
+-- `signed` is whether the object is
+abbrev pub shownAsk : Ask → Bool → Answer → Shown
+shownAsk Receive signed a = shownValue (eqb (numberOf a) 0 || eqb (numberOf a) 3) signed a
+shownAsk Status signed a = StatusAlone
+shownAsk Marks signed a = shownValue (eqb (numberOf a) 0) false a
+shownAsk ClearMarks signed a = StatusAlone
 
-abbrev pub shown : Command → Answer → Shown
-shown Start a = StatusAlone
-shown Stop a = StatusAlone
-shown (Send i v) a = Requests (valueOf a)
-shown (Initialise i v) a = StatusAlone
-shown (Object ask i) a = shownAsk ask a
-shown (Periodic on) a = StatusAlone
-shown (Indication k good) a = StatusAlone
-shown (Confirm k good) a = StatusAlone
-shown Tick a = Requests (valueOf a)
+abbrev pub shown : List ℕ → Command → Answer → Shown
+shown t Start a = StatusAlone
+shown t Stop a = StatusAlone
+shown t (Send i v) a = Requests (valueOf a)
+shown t (Initialise i v) a = StatusAlone
+shown t (Object ask i) a = shownAsk ask (isSigned t (counts t) (i .0)) a
+shown t (Periodic on) a = StatusAlone
+shown t (Indication k good) a = StatusAlone
+shown t (Confirm k good) a = StatusAlone
+shown t Tick a = Requests (valueOf a)
 
 abbrev pub valName : List ℕ
 valName = codes " val"
@@ -72,13 +75,13 @@ requestTexts t (suc k) word area = requestTexts t k word area ++ pick (eqb (word
 
 abbrev pub shownText : List ℕ → List ℕ → Shown → List ℕ
 shownText t area StatusAlone = []
-shownText t area (Value v) = valName ++ numberField v
+shownText t area (Value signed v) = valName ++ integerField (integer signed v)
 shownText t area (Requests word) = requestTexts t (counts t .ipdus) word area
 
 -- ---- the line, over the request area that the call left
 
 unfoldable pub answerLine : List ℕ → Command → Answer → List ℕ → List ℕ
-answerLine t command a area = digitOf (numberOf a) ∷ shownText t area (shown command a) ++ lineFeed ∷ []
+answerLine t command a area = digitOf (numberOf a) ∷ shownText t area (shown t command a) ++ lineFeed ∷ []
 
 -- `9 N`, where line N can't be read
 unfoldable pub refusalLine : ℕ → List ℕ

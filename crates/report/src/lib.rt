@@ -19,10 +19,10 @@ ghost use Rattle.report.specs.Printing.{lends, answerLine, refusalLine, 
 // A status, 32 requests of 24 bytes and a line feed.
 pub const LONGEST_LINE: usize = 770;
 
-// What is printed behind the status of a call.
+// What is printed behind the status of a call: a value that is signed or not, or the I-PDUs of a word.
 pub enum Shown {
     StatusAlone,
-    Value(u32),
+    Value(bool, u32),
     Requests(u32),
 }
 
@@ -43,10 +43,10 @@ pub fn put_answer(
 {
     let number = calls::number_of(answer);
     let behind = memory::put_digit(out, at, number);
-    let shown = values::shown(command, answer);
+    let shown = values::shown(t, c, command, answer);
     match shown {
         Shown::StatusAlone => memory::put_line_feed(out, behind),
-        Shown::Value(v) => values::put_value(out, behind, v),
+        Shown::Value(signed, v) => values::put_value(out, behind, signed, v),
         Shown::Requests(word) => requests::put_requests(t, c, area, out, behind, word),
     }
 }

@@ -1,4 +1,4 @@
--- W-201 by example: scripts and what they print, from a stopped layer's memory. Assumes nothing.
+-- W-201 by example: scripts and what they print, from a stopped layer's memory; with W-207's values below zero. Assumes nothing.
 use mathlib.Core.List.{List, [], _∷_, _++_}
 use mathlib.Core.Path.{_≡_}
 use Prim.Native.Nat.{ℕ}
@@ -7,7 +7,7 @@ use lib.ListN.{replicate}
 use Rattle.state.specs.Layout.{memorySize, areaSize}
 use Rattle.script.specs.Characters.{codes}
 use Rattle.script_run.specs.Script.{printedBy, begun}
-use Rattle.cases.specs.Case.{pair, sendIpdu, receiveIpdu, sendObject, receiveObject}
+use Rattle.cases.specs.Case.{pair, sendIpdu, receiveIpdu, objectBytes, sendObject, receiveObject}
 
 -- a table, a script and what it prints
 pub record ScriptCase : Type 0 where
@@ -34,6 +34,10 @@ caseTable = pair (sendIpdu 0 0 0 3 10) (sendObject 5 0 0)
 -- one receive I-PDU of 4 bytes, and an object of 12 bits from bit 13 on with a queue of two
 abbrev pub queueTable : List ℕ
 queueTable = pair (receiveIpdu 0 0) (receiveObject 2)
+
+-- one receive I-PDU of 4 bytes, and an unqueued object of 12 bits from bit 13 on in this order
+abbrev pub orderTable : (order : ℕ) → List ℕ
+orderTable order = pair (receiveIpdu 0 0) (objectBytes 2 0 255 13 12 order 0 0 0 0 0 0)
 
 abbrev pub scriptCases : List ScriptCase
 scriptCases =
@@ -73,4 +77,20 @@ scriptCases =
     ∷ prints caseTable "indication 0 1 0a\n" "9 1\n"
     ∷ prints caseTable "indication 0 1 \n" "9 1\n"
     ∷ prints caseTable "starts\n" "9 1\n"
+    -- W-207: a value of a signed object is printed as signed, marks are not; of another object as its 32 bits
+    ∷ prints (orderTable 2)
+    "start\nindication 0 1 00E0FF01\nreceive 0\nmarks 0\ninitialise 0 -2147483648\nreceive 0\ninitialise 0 4294967290\nreceive 0\ninitialise 0 7\nreceive 0\n"
+    "0\n0\n0 val -1\n0 val 1\n0\n0 val -2147483648\n0\n0 val -6\n0\n0 val 7\n"
+    ∷ prints (orderTable 0) "start\nindication 0 1 00E0FF01\nreceive 0\ninitialise 0 -1\nreceive 0\n" "0\n0\n0 val 4095\n0\n0 val 4294967295\n"
+    ∷ prints caseTable "start\nsend 0 -1\n" "0\n0 req 0 00E0FF01\n"
+    -- what can't be read of it
+    ∷ prints caseTable "send 0 -0\n" "9 1\n"
+    ∷ prints caseTable "send 0 -01\n" "9 1\n"
+    ∷ prints caseTable "send 0 --1\n" "9 1\n"
+    ∷ prints caseTable "send 0 -\n" "9 1\n"
+    ∷ prints caseTable "send 0 1-\n" "9 1\n"
+    ∷ prints caseTable "send 0 -2147483649\n" "9 1\n"
+    ∷ prints caseTable "send -1 0\n" "9 1\n"
+    ∷ prints caseTable "confirm 0 -1\n" "9 1\n"
+    ∷ prints caseTable "indication -1 1\n" "9 1\n"
     ∷ []

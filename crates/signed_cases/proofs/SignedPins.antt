@@ -1,6 +1,6 @@
 -- The claims of W-207 cannot be emptied: from the theorems themselves a value below zero that is read back, one that is not, and one that another
 -- board receives. Assumes nothing.
-use mathlib.Core.Bool.{true, false}
+use mathlib.Core.Bool.{true}
 use mathlib.Core.List.{List, [], _∷_}
 use mathlib.Core.Path.{_≡_, refl}
 use Prim.Native.Nat.{ℕ}
@@ -21,7 +21,7 @@ use Rattle.cases.specs.Case.{pair, sendIpdu, receiveIpdu, objectBytes, area}
 use Rattle.cases.proofs.Definitions.{definitions}
 use Rattle.trace.specs.Book.{advance}
 use Rattle.trace.specs.Actions.{Action, single, memoryAfterAll}
-use Rattle.trace.specs.Demand3.{ActionsTyped, done, frame, names}
+use Rattle.trace.specs.Demand3.{done, frame, names}
 use Rattle.trace.specs.RoundTrip.{readingIn, ipduBytes, Runs, memoryOf, Takes}
 use Rattle.trace.proofs.Pins.{none}
 use Rattle.trace.proofs.RoundTrip.{stored-last, stored-exactly, reading-round-trip}

@@ -125,8 +125,7 @@ module _ (t : List ℕ) (bt : Bytes t) (xs : List Action) (y : ActionsTyped xs) 
       let slot = usable t c right i low .slot in
       let agrees = actions-follow t c (a .table) bt xs y (opened t c) (step t start m .memory) (start-follows t c (a .table) bt m (a .long)) .agrees in
       let held = ready-kept t c (workingMemory (memoryAfterAll t (single start ∷ xs) m)) (agrees .ready) i low .old in
-      let small = rw (agrees .old i low (object-kind t c sending i s)) at held in
-      (
+      let small = rw (agrees .old i low (object-kind t c sending i s)) at held in (
         λ fits. last i is-last ∙ fits-back (signedOf (r .order)) (r .size) (lastOf i es) (slot .some) (slot .most) small fits,
         λ back. back-fits (signedOf (r .order)) (r .size) (lastOf i es) (slot .some) (slot .most) small (sym (last i is-last) ∙ back),
       )
