@@ -12,4 +12,5 @@ pub script-cases-print : AllPrint scriptCases
 unfolding definitions decimal integer isSigned requestText requestTexts answerLine refusalLine
 script-cases-print =
     all-print scriptCases
-    (refl & refl & refl & refl & refl & refl & refl & refl & refl & refl & refl & refl & refl & refl & refl & refl & refl & refl & refl & refl & refl & refl & refl & tt)
+    (refl & refl & refl & refl & refl & refl & refl & refl & refl & refl & refl & refl & refl & refl & refl & refl & refl & refl & refl & refl
+    & refl & refl & refl & refl & refl & refl & refl & refl & refl & refl & refl & refl & refl & refl & refl & tt)
