@@ -3,8 +3,10 @@
 use mathlib.Core.List.{[]}
 use mathlib.Core.Path.{_≡_, refl}
 use Rattle.memory.specs.Texts.{decimal}
+use Rattle.memory.specs.Integers.{integer, lessThan}
+use Rattle.config.specs.Decode.{isSigned}
 use Rattle.queue.specs.Queues.{waiting}
-use Rattle.layer.specs.Promises.{refusal, received, statusRead, marksRead, marksCleared, waitingFor}
+use Rattle.layer.specs.Promises.{refusal, received, statusRead, marksRead, marksCleared, waitingFor, readsSigned}
 use Rattle.sheet.specs.Layout.{begunAt, followedAt, rowAt, withRow, sheetInRange}
 use Rattle.sheet.specs.Numbers.{withReply, withMarks}
 use Rattle.sheet.specs.Drains.{takeUpTo, takeAll, drainQueue, seeMarks, drainObject, drainEach}
@@ -16,7 +18,7 @@ use Rattle.sheet_cases.specs.SheetCases.{refused, refusedShows, refusedL
 
 -- all that a begin or a drain goes through
 unfoldable pub sheetDefinitions : Unit {0}
-unfolding refusal received statusRead marksRead marksCleared waiting waitingFor begunAt followedAt rowAt withRow sheetInRange withReply withMarks
+unfolding integer lessThan isSigned readsSigned refusal received statusRead marksRead marksCleared waiting waitingFor begunAt followedAt rowAt withRow sheetInRange withReply withMarks
 sheetDefinitions = tt
 
 unfoldable pub drainDefinitions : Unit {0}

@@ -1,15 +1,17 @@
 -- `journey-numbers` cannot be emptied: its premises hold of a journey with calls between two drains, and a row comes out of it.
 -- Assumes nothing.
+use mathlib.Core.Bool.{false}
 use mathlib.Core.List.{List, [], _∷_}
 use mathlib.Core.Path.{_≡_, refl, _∙_}
 use Prim.Native.Nat.{ℕ, zero, suc, _^_, _<_}
 use native.Mathlib.Omega.{arith}
 use lib.ListN.{getD, replicate}
 use Rattle.memory.specs.Bytes.{Bytes, bytesOf}
+use Rattle.memory.specs.Integers.{integer, lessThan}
 use Rattle.memory.proofs.Tests.{tested}
 use Rattle.state.specs.Layout.{memorySize}
 use Rattle.layer.specs.Step.{start, step}
-use Rattle.layer.specs.Promises.{reply}
+use Rattle.layer.specs.Promises.{reply, readsSigned}
 use Rattle.layer.proofs.StepBytes.{start-bytes}
 use Rattle.sheet.specs.Layout.{sheetSize, rowAt}
 use Rattle.sheet.specs.Numbers.{row, workedOut}
@@ -71,10 +73,15 @@ pub replies-pin : (repliesTo (drainsIn twoCases events m sheet) sheet 1 ≡ repl
 unfolding definitions sheetDefinitions drainDefinitions
 replies-pin = (refl, refl)
 
+-- it is not signed
+plain : readsSigned twoCases 0 ≡ false
+unfolding definitions sheetDefinitions
+plain = refl
+
 -- so its row, from the theorem
 pub row-pin : rowAt (sheetAfter (drainsIn twoCases events m sheet) sheet) 1 ≡ row 0 2 7 8 7 8 1 1
-unfolding workedOut
+unfolding workedOut integer lessThan
 row-pin =
     journey-numbers twoCases m s is table-bytes (start-bytes twoCases (replicate memorySize 165) table-bytes (tested (replicate memorySize 165) refl)) (tested s refl) small begins
     events typed 1 (omega arith)
-    ∙ (rw (replies-pin .0, replies-pin .1))
+    ∙ (rw (plain, replies-pin .0, replies-pin .1))

@@ -1,2 +1,3 @@
 pub mod SignedCases
 pub mod SignedPins
+pub mod SignedJourneys

@@ -1,1 +1,2 @@
 pub mod SignedCases
+pub mod SignedJourneys
