@@ -9,63 +9,16 @@ use crate::make_sheet::{self, act};
 use crate::memories::changed;
 use crate::peer::{self, check, ipdu_length, make, Calls, PEER, PROVED};
 use crate::ranges::in_range;
+use crate::records::Object;
 use crate::reference::Layer;
-use crate::sheet::{rows, OnSheet, What, SHEET, TEXT};
+use crate::sheet::{rows, OnSheet, What, LONGEST, SHEET, TEXT};
 use crate::stored;
 use crate::table::{right_table, Run};
+use crate::wanted::{EVENTS, NUMBERS, OF_CHECKS, OF_LISTS, OF_SHEETS, OF_TABLES, WANTED};
 
 const MEMORY: usize = 8192;
 const AREA: usize = 256;
 const OBJECT_ROWS: usize = 784;
-/// One more than the greatest number that is answered.
-const NUMBERS: usize = 11;
-
-/// The calls by kind, and the numbers that each has to answer somewhere.
-const WANTED: [(&str, &[usize]); KINDS] = [
-    ("start", &[0, 5, 6]),
-    ("stop", &[0, 5, 6, 7]),
-    ("send", &[0, 1, 5, 6, 7]),
-    ("initialise", &[0, 1, 5, 6, 7]),
-    ("receive", &[0, 1, 3, 4, 5, 6, 7]),
-    ("status", &[0, 1, 3, 4, 5, 6, 7]),
-    ("marks", &[0, 1, 5, 6, 7]),
-    ("clear_marks", &[0, 1, 5, 6, 7]),
-    ("start_periodic", &[0, 5, 6, 7]),
-    ("stop_periodic", &[0, 5, 6, 7]),
-    ("indication", &[0, 1, 2, 5, 6, 7]),
-    ("confirm", &[0, 1, 5, 6, 7, 8]),
-    ("tick", &[0, 5, 6, 7]),
-    ("send_group", &[0, 2, 5, 6, 7]),
-    ("send_records", &[0, 2, 5, 6, 7]),
-    ("sheet_begin", &[0, 1, 5, 6, 7, 10]),
-    ("sheet_drain", &[0, 1, 5, 6, 7, 10]),
-];
-
-/// What else has to be met.
-const EVENTS: [&str; 21] = [
-    "a request by send",
-    "a request by tick",
-    "a request by a group",
-    "two requests by a call",
-    "a pair with status 1",
-    "6 for a stored number",
-    "6 for a short area",
-    "6 for a sheet",
-    "6 for a text",
-    "a drain of no object",
-    "a drain of sixteen objects",
-    "sixteen values drained of one object",
-    "an overflow drained",
-    "an error seen",
-    "a count that stops",
-    "a line as long as may be",
-    "an accepted table",
-    "a wrong header",
-    "a wrong I-PDU",
-    "a wrong object",
-    "depths of 512 in all",
-];
-
 struct Test {
     seed: u64,
     run: Run,
@@ -130,12 +83,13 @@ impl Test {
         let n = if let Act::Group(group) = act { group.lent } else { 0 };
         self.note(act, proved, &lists.statuses[..n], lengths);
         if let Act::Sheet(on) = act {
-            self.note_sheet(on, proved, (on.of(&mut state.sheets), on.of(&mut lists.sheets)), lengths.0);
+            let text = String::from_utf8_lossy(&lists.text[..proved.1 as usize]).into_owned();
+            self.note_sheet(on, proved.0, (on.of(&mut state.sheets), on.of(&mut lists.sheets)), &text, lengths.0);
         }
         state.sheets = lists.sheets;
     }
 
-    fn note_sheet(&mut self, on: &OnSheet, (number, _): (u32, u32), (was, is): (&[u8], &[u8]), m: usize) {
+    fn note_sheet(&mut self, on: &OnSheet, number: u32, (was, is): (&[u8], &[u8]), text: &str, m: usize) {
         let drains = matches!(on.what, What::Drain(..));
         let sheet_right = if drains { rows(was).is_some() } else { was.len() >= SHEET };
         let refused = number == 6 && m >= MEMORY;
@@ -144,6 +98,10 @@ impl Test {
             _ => (Vec::new(), Vec::new()),
         };
         let pairs: Vec<_> = before.iter().zip(&after).collect();
+        let around_zero = |line: &str| {
+            let fields: Vec<&str> = line.split(' ').collect();
+            fields[4].len() > 1 && fields[4].starts_with('-') && !fields[5].starts_with('-')
+        };
         let met = [
             refused && !sheet_right,
             refused && drains && sheet_right && on.text_lent() < TEXT,
@@ -153,11 +111,11 @@ impl Test {
             pairs.iter().any(|(before, after)| after.overflows > before.overflows),
             pairs.iter().any(|(before, after)| after.errors > before.errors),
             pairs.iter().any(|(before, after)| after.drained == u32::MAX && after.last != before.last),
-            after.iter().any(|row| row.line().len() == 81),
+            text.lines().any(|line| line.len() + 1 == LONGEST - 4 && !line.contains('-')),
+            text.lines().any(|line| line.len() + 1 == LONGEST),
+            text.lines().any(around_zero),
         ];
-        for (count, met) in self.events[7..].iter_mut().zip(met) {
-            *count += met as u64;
-        }
+        self.count(OF_SHEETS, &met);
     }
 
     fn note(&mut self, act: &Act, (number, word): (u32, u32), statuses: &[u8], (m, a): (usize, usize)) {
@@ -174,9 +132,37 @@ impl Test {
             number == 6 && m >= MEMORY && a >= AREA && !matches!(act, Act::Sheet(_)),
             number == 6 && m >= MEMORY && a < AREA && !matches!(act, Act::Sheet(_)),
         ];
-        for (count, met) in self.events.iter_mut().zip(met) {
-            *count += met as u64;
+        self.count(0, &met);
+    }
+
+    /// Counts events, from this one on.
+    fn count(&mut self, from: usize, met: &[bool]) {
+        for (count, met) in self.events[from..].iter_mut().zip(met) {
+            *count += *met as u64;
         }
+    }
+
+    /// Counts what a call may meet of signed objects, with the layer before it.
+    fn note_signed(&mut self, act: &Act, layer: &Layer) {
+        let met = match *act {
+            Act::Call(Call::Receive { object }) => {
+                let below = |o: &Object| {
+                    let value = o.queue.front().copied().unwrap_or(o.value);
+                    !o.sends && o.signed && o.bits.len() < 32 && o.fits(value) && o.meant(value) < 0
+                };
+                [layer.objects.get(object as usize).is_some_and(below), false, false]
+            }
+            Act::Call(Call::Send { object, value }) => {
+                let otherwise = |o: &Object| o.sends && o.signed && o.judge(value) != o.judge_as(value, false);
+                [false, layer.objects.get(object as usize).is_some_and(otherwise), false]
+            }
+            Act::Call(Call::Initialise { object, value }) => {
+                let whole = |o: &Object| o.signed && !o.fits(value);
+                [false, false, layer.objects.get(object as usize).is_some_and(whole)]
+            }
+            _ => [false; 3],
+        };
+        self.count(OF_LISTS, &met.map(|met| met && !layer.stopped));
     }
 
     /// The check by both, and the length of some I-PDU.
@@ -190,13 +176,17 @@ impl Test {
             self.differ(&format!("length of I-PDU {ipdu}: proved and peer {lengths:?}"), table);
         }
         self.checks += 1;
-        let event = match proved {
-            (0, _) => 16,
-            (_, 65535) => 17,
-            (_, 0..=255) => 18,
-            _ => 19,
-        };
-        self.events[event] += 1;
+        let place = proved.1 as usize;
+        let object = |at: usize| table[16 + 16 * table[0] as usize + 32 * (place - 256) + at];
+        let (refused, is_object) = (proved.0 != 0, (256..65535).contains(&place));
+        let met = [
+            !refused,
+            place == 65535,
+            refused && place < 256,
+            is_object,
+            is_object && object(1) == 255 && [1, 3].contains(&object(5)),
+        ];
+        self.count(OF_CHECKS, &met);
     }
 
     /// A right table with many objects, often with as many places in queues as there may be.
@@ -204,7 +194,7 @@ impl Test {
         let (ipdus, objects) = (self.run.pick(&[1, 8, 32]), self.run.pick(&[40, 100, 128]));
         let table = right_table(&mut self.run, ipdus, objects);
         let depths: u32 = table[16 + 16 * ipdus..].chunks(32).map(|record| record[7] as u32).sum();
-        self.events[20] += (depths == 512) as u64;
+        self.count(OF_TABLES, &[depths == 512]);
         table
     }
 
@@ -250,7 +240,8 @@ impl Test {
         self.faults += 1;
     }
 
-    /// Every byte of a sheet changed alone, each time with a drain; then its numbers the least and the greatest of each length.
+    /// Every byte of a sheet changed alone, each time with a drain; then its numbers the least and the greatest of each length, also
+    /// below zero.
     fn sheet_faults(&mut self, table: &[u8], layer: &Layer, started: &State) {
         let mut begun = started.clone();
         let begin = make_sheet::short_begin(&mut self.run, layer, 0);
@@ -262,7 +253,8 @@ impl Test {
             state.sheets[0][at] = self.other(state.sheets[0][at]);
             self.fault(&drain, table, &mut state);
         }
-        for number in (0..10).flat_map(|n| [10u32.pow(n) - 1, 10u32.pow(n)]) {
+        let ends = (0..10).flat_map(|n| [10u32.pow(n) - 1, 10u32.pow(n)]);
+        for number in ends.chain([1 << 31]).flat_map(|n| [n, n.wrapping_neg()]) {
             let mut state = begun.clone();
             for row in state.sheets[0][8..bytes.max(8)].chunks_mut(32) {
                 row[4..].copy_from_slice(&[number.to_le_bytes(); 7].concat());
@@ -326,6 +318,7 @@ impl Test {
             if self.run.below(5) == 0 {
                 self.over_changed(&made, table, &layer, &mut state);
             }
+            self.note_signed(&made, &layer);
             self.step(&made, table, &layer, &mut state);
         }
         self.memory_faults(table, &layer, &state);

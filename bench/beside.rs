@@ -50,6 +50,7 @@ mod stored;
 #[path = "../tests/table.rs"]
 #[allow(dead_code)]
 mod table;
+mod wanted;
 
 use act::Act;
 use call::Call;

@@ -1,9 +1,13 @@
 //! A second table check, and a comparison of the library's check with it.
-//! `place` is written from document 01 alone ("The table", "Bits", "Filters") and request W-205 of
-//! document 02, not from the crates. Right, wrong and damaged tables are made, many of them with
-//! send objects that share bits, and each must get the same answer from `place` and the library.
+//! `place` is written from document 01 alone ("The table", "Bits", "Filters") and requests W-205
+//! and W-207 of document 02, not from the crates. Right, wrong and damaged tables are made, many
+//! with send objects that share bits, and with signed objects in either order; each must get the
+//! same answer from `place` and the library.
 //! Arguments, both optional: the seed, the least number of tables. With `--cfg own` the library
 //! is left out, to try the making of the tables alone.
+
+#[path = "table/small.rs"]
+mod small;
 
 #[repr(C)]
 #[derive(Clone, Copy, PartialEq, Debug)]
@@ -64,7 +68,7 @@ fn ipdu_right(r: &[u8]) -> bool {
 fn object_right(r: &[u8], ipdus: &[&[u8]], objects: &[&[u8]]) -> bool {
     let (kind, ipdu, sender) = (r[0], r[1], r[2]);
     let (start, size, order, transfer, depth) = (r[3], r[4], r[5], r[6], r[7]);
-    let ranges = (1..=32).contains(&size) && order <= 1 && transfer <= 1 && depth <= 16;
+    let ranges = (1..=32).contains(&size) && order <= 3 && transfer <= 1 && depth <= 16;
     let rest_zero = r[9..12].iter().chain(&r[24..32]).all(|&b| b == 0);
     let by_kind = match kind {
         1 => sender == 255 && depth == 0,
@@ -73,7 +77,7 @@ fn object_right(r: &[u8], ipdus: &[&[u8]], objects: &[&[u8]]) -> bool {
     };
     let sender_right = sender == 255 || objects.get(sender as usize).is_some_and(|s| s[0] == 1);
     let bits_right = match ipdus.get(ipdu as usize) {
-        _ if ipdu == 255 => start == 0 && size == 32 && order == 0,
+        _ if ipdu == 255 => start == 0 && size == 32 && (order == 0 || order == 2),
         Some(p) => p[0] == kind && walk(start, size, order, p[1]).is_some(),
         None => false,
     };
@@ -88,13 +92,16 @@ fn object_right(r: &[u8], ipdus: &[&[u8]], objects: &[&[u8]]) -> bool {
     ranges && rest_zero && by_kind && sender_right && bits_right && filter_right
 }
 
+/// Whether an order is one of the big ones, 1 and the signed 3.
+pub fn is_big(order: u8) -> bool { order == 1 || order == 3 }
+
 /// The I-PDU bits that the message bits go to, one by one; None where one lies outside.
 fn walk(start: u8, size: u8, order: u8, length: u8) -> Option<Vec<usize>> {
     let (mut bits, mut bit) = (Vec::new(), start as i32);
     for _ in 0..size {
         if bit < 0 || bit >= 8 * length as i32 { return None; }
         bits.push(bit as usize);
-        bit = if order == 1 && bit % 8 == 7 { 8 * (bit / 8 - 1) } else { bit + 1 };
+        bit = if is_big(order) && bit % 8 == 7 { 8 * (bit / 8 - 1) } else { bit + 1 };
     }
     Some(bits)
 }
@@ -135,7 +142,10 @@ fn fail(table: &[u8], what: &str) -> ! {
 
 // ---- Right tables ----
 const TIMES: [u16; 5] = [1, 2, 255, 256, 65535];
-pub const WORDS: [u32; 11] = [0, 1, 2, 3, 254, 255, 256, 257, 65536, 0x8000_0000, 0xFFFF_FFFF];
+pub const WORDS: [u32; 14] = [
+    0, 1, 2, 3, 254, 255, 256, 257, 65536,
+    0x7FFF_FFFF, 0x8000_0000, 0x8000_0001, 0xFFFF_FFFE, 0xFFFF_FFFF,
+];
 
 pub fn join(ipdus: &[[u8; 16]], objects: &[[u8; 32]]) -> Vec<u8> {
     let from = 16 + 16 * ipdus.len();
@@ -178,8 +188,8 @@ fn right_filter(run: &mut Run, r: &mut [u8; 32]) {
 }
 
 /// A start, size and order with room.
-fn right_bits(run: &mut Run, length: u8) -> [u8; 3] {
-    let (start, order) = (run.below(8 * length as usize) as u8, run.below(2) as u8);
+pub fn right_bits(run: &mut Run, length: u8) -> [u8; 3] {
+    let (start, order) = (run.below(8 * length as usize) as u8, run.below(4) as u8);
     let room = (1..=32).take_while(|&n| walk(start, n, order, length).is_some()).last().unwrap();
     [start, run.pick(&[1, 1 + run.random as u8 % room, room]), order]
 }
@@ -191,16 +201,19 @@ pub fn right_table(run: &mut Run, ipdus: usize, objects: usize) -> Vec<u8> {
     let (deep, mut left) = (run.below(2) == 0, 512);
     let mut objects: Vec<[u8; 32]> = Vec::new();
     for &kind in &kinds {
-        let mut r = object(&[kind, 255, 255, 0, 32]);
+        let mut r = object(&[kind, 255, 255, 0, 32, run.pick(&[0, 2])]);
         let tries = if ipdus.is_empty() { 0 } else { run.pick(&[0, 10, 10, 10]) };
         for _ in 0..tries {
             let k = run.below(ipdus.len());
             if ipdus[k][0] != kind { continue; }
             let b = right_bits(run, ipdus[k][1]);
             r = object(&[kind, k as u8, 255, b[0], b[1], b[2]]);
-            // Now and then the very bits of the object before.
+            // Now and then the very bits of the object before, signed as it is or not.
             let before = objects.last().filter(|o| o[0] == kind && o[1] < 255);
-            if let (Some(o), 0) = (before, run.below(4)) { r[1..6].copy_from_slice(&o[1..6]); }
+            if let (Some(o), 0) = (before, run.below(4)) {
+                r[1..6].copy_from_slice(&o[1..6]);
+                r[5] ^= run.pick(&[0, 2]);
+            }
             break;
         }
         if kind == 1 { r[6] = run.below(2) as u8; }
@@ -316,69 +329,12 @@ fn depths(run: &mut Run) {
     run.expect(&make(&list), Some(256 + last.min(wrong) as u32));
 }
 
-/// Small tables that go through the values of some fields together.
-fn small(run: &mut Run) {
-    let (send, receive) = (ipdu(1, 8, 0, [0, 0, 0, 1, 0]), ipdu(2, 8, 0, [0; 5]));
-    let [first, second] = [1, 2].map(|kind| object(&[kind, 255, 255, 0, 32]));
-    for n in 0..4 * 4 * 32 {
-        let times = [1, 2, 4, 8, 16].map(|bit| if n & bit > 0 { run.pick(&TIMES) } else { 0 });
-        let made = ipdu((n / 32 % 4) as u8, 1 + run.below(8) as u8, (n / 128) as u8, times);
-        run.compare(&join(&[send, made, receive], &[first]));
-    }
-    for n in 0..17 * 11 * 11 {
-        let mut r = run.pick(&[first, second]);
-        set_filter(&mut r, (n / 121) as u8, [0, WORDS[n % 11], WORDS[n / 11 % 11]]);
-        run.compare(&join(&[], &[first, r]));
-    }
-    for n in 0..4 * 4 * 5 * 3 * 2 * 5 {
-        let (k, sender) = ([0, 1, 2, 255][n / 4 % 4], [0, 1, 2, 3, 255][n / 16 % 5]);
-        let bits = [[0, 32, 0], [1, 32, 0], [0, 31, 0], [24, 32, 1], [0, 32, 1]][n / 480];
-        let mut r = object(&[(n % 4) as u8, k, sender, bits[0], bits[1], bits[2]]);
-        (r[6], r[7]) = ((n / 80 % 3) as u8, (n / 240 % 2) as u8);
-        run.compare(&join(&[send, receive], &[first, second, r]));
-    }
-    // Room, known by the document's sums instead of the walk.
-    for n in 0..8 * 2 * 66 * 34_u32 {
-        let (length, order, start, size) = (1 + n % 8, n / 8 % 2, n / 16 % 66, n / 1056);
-        let big = if start < 8 * length { 8 * (start / 8 + 1) - start % 8 } else { 0 };
-        let room = if order == 1 { big } else { (8 * length).saturating_sub(start) };
-        if (2..32).contains(&size) && size.abs_diff(room) > 1 { continue; }
-        let r = object(&[2, 0, 255, start as u8, size as u8, order as u8]);
-        let known = if 1 <= size && size <= 32.min(room) { None } else { Some(256) };
-        run.expect(&join(&[ipdu(2, length as u8, 0, [0; 5])], &[r]), known);
-    }
-}
-
-/// Case 12, and single tables at the edges.
-fn edges(run: &mut Run) {
-    let mut case = vec![1, 0, 1, 0, 16, 0, 32, 0, 64, 0, 0, 0, 0, 0, 0, 0];
-    case.extend([1, 4, 0, 0, 0, 0, 0, 0, 3, 0, 10, 0, 0, 0, 0, 0, 1, 0, 255, 13, 12, 0, 0, 0, 5]);
-    case.resize(64, 0);
-    run.expect(&case, None);
-    case[36] = 33;
-    run.expect(&case, Some(256));
-    for length in 0..=16 {
-        run.expect(&vec![0; length], Some(65535));
-        run.expect(&join(&[], &[])[..length], if length < 16 { Some(65535) } else { None });
-    }
-    let (send, alone) = (ipdu(1, 4, 0, [0, 0, 3, 10, 0]), object(&[1, 255, 255, 0, 32]));
-    run.expect(&join(&[send; 32], &[alone; 128]), None);
-    run.expect(&join(&[send; 33], &[]), Some(65535));
-    run.expect(&join(&[], &[alone; 129]), Some(65535));
-    // A wrong sender (object 1) makes its receiver (object 0) wrong by the kind byte alone.
-    for (byte, known) in [(31, 257), (0, 256)] {
-        let mut t = join(&[], &[object(&[2, 255, 1, 0, 32]), alone]);
-        t[48 + byte] = 3;
-        run.expect(&t, Some(known));
-    }
-}
-
 fn main() {
     let mut arguments = std::env::args().skip(1).map(|a| a.parse::<u64>().expect("a number"));
     let (seed, least) = (arguments.next().unwrap_or(1), arguments.next().unwrap_or(40_000));
     let mut run = Run { random: seed.wrapping_mul(0x9E37_79B9_7F4A_7C15) | 1, counts: [0; 4] };
-    edges(&mut run);
-    small(&mut run);
+    small::edges(&mut run);
+    small::small(&mut run);
     while run.counts.iter().sum::<u64>() < least {
         changes(&mut run);
         for _ in 0..20 { pairs(&mut run); }

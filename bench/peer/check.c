@@ -125,8 +125,8 @@ static inline uint32_t depth_of(uint64_t form)
 static inline uint32_t depth_outside(const uint8_t *objects, const uint8_t *end, uint64_t form)
 {
     uint32_t sender = (uint8_t)(form >> 16), depth = depth_of(form);
-    /* No I-PDU, start 0, 32 bits, little. */
-    if ((form & 0x0000FFFFFF00FF00) != 0x000000200000FF00)
+    /* No I-PDU, start 0, 32 bits, little, signed or not. */
+    if ((form & 0x0000FDFFFF00FF00) != 0x000000200000FF00)
         return WRONG;
     if (depth == WRONG || sender == NONE)
         return depth;
@@ -142,11 +142,12 @@ static inline int big_outside(uint32_t start, uint32_t last, uint32_t room)
 }
 
 /* An object in an I-PDU that has a queue or is pending, or is wrong. */
-static inline uint32_t depth_inside(const uint8_t *record, uint64_t form, uint32_t start, uint32_t last, uint32_t room)
+static inline uint32_t depth_inside(uint64_t form, uint32_t start, uint32_t last, uint32_t room)
 {
-    if (record[SENDER] != NONE || record[ORDER] > BIG)
-        return WRONG;
-    if (record[ORDER] == BIG ? big_outside(start, last, room) : start + last >= room)
+    /* No sending object; the order, less its sign, is big or little. */
+    uint64_t rest = form & 0x0000FD0000FF0000;
+    if (rest == 0x0000010000FF0000 ? big_outside(start, last, room)
+                                   : rest != 0x0000000000FF0000 || start + last >= room)
         return WRONG;
     return depth_of(form);
 }
@@ -189,8 +190,8 @@ static inline uint32_t walk_ipdus(const uint8_t *table, const uint8_t *end, cons
     return RIGHT;
 }
 
-/* The objects, in the same way. Most are triggered and have no queue: then their first word, less kind, I-PDU and bits,
- * is one of two, by the order. */
+/* The objects, in the same way. Most are triggered and have no queue: then their first word, less kind, I-PDU, bits and
+ * sign, is one of two, by the order. */
 static inline __attribute__((always_inline)) uint32_t walk_objects(peer_view *view, const uint8_t *memory,
                                                                    int with_memory)
 {
@@ -219,7 +220,7 @@ static inline __attribute__((always_inline)) uint32_t walk_objects(peer_view *vi
             start = record[START_BIT];
             last = record[BIT_LENGTH] - 1u;
             room = 8u * in[LENGTH];
-            rest = form & 0xFFFFFF0000FF0000;
+            rest = form & 0xFFFFFD0000FF0000;
             /* The direction is 1 or 2, and so is the kind with it. */
             if (rare(in[DIRECTION] != (uint8_t)form || last >= 32))
                 break;
@@ -227,7 +228,7 @@ static inline __attribute__((always_inline)) uint32_t walk_objects(peer_view *vi
                 continue;
             if (rest == 0x0000010000FF0000 && !big_outside(start, last, room))
                 continue;
-            depth = depth_inside(record, form, start, last, room);
+            depth = depth_inside(form, start, last, room);
         }
         queue += (uint64_t)(depth & (INSIDE - 1)) << QUEUE_SHIFT;
         if (depth == WRONG || queue > (uint64_t)MOST_QUEUED << QUEUE_SHIFT)

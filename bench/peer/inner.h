@@ -60,8 +60,8 @@ enum {
     REST = 24
 };
 
-/* Values of those fields. */
-enum { SEND = 1, RECEIVE = 2, DIRECT = 0, PERIODIC = 1, MIXED = 2, LITTLE = 0, BIG = 1, ONE_EVERY_N = 14, NONE = 255 };
+/* Values of those fields. An order has a bit for big and one for signed. */
+enum { SEND = 1, RECEIVE = 2, DIRECT = 0, PERIODIC = 1, MIXED = 2, BIG = 1, SIGNED = 2, ONE_EVERY_N = 14, NONE = 255 };
 
 /* Working memory: where its parts begin, and the bytes of a row. */
 enum {

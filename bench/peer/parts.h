@@ -66,19 +66,38 @@ static inline void pack(const uint8_t *record, uint8_t *memory, uint32_t value)
 {
     uint8_t *slot = memory + SLOTS + SLOT_SIZE * record[IPDU];
     uint64_t word = load64(slot), mask = ((uint64_t)1 << record[BIT_LENGTH]) - 1;
-    if (record[ORDER] == LITTLE)
+    if ((record[ORDER] & BIG) == 0)
         word = with_field(word, record[START_BIT], mask, value);
     else
         word = bytes_turned(with_field(bytes_turned(word), record[START_BIT] ^ 56u, mask, value));
     store64(slot, word);
 }
 
+/* The value, with its top bit copied upwards where the object is signed: the bit is turned over and taken off again, and
+ * where it was set a borrow runs up from it. */
+static inline uint32_t extended(const uint8_t *record, uint32_t value)
+{
+    uint32_t top = (uint32_t)(record[ORDER] / SIGNED) << (record[BIT_LENGTH] - 1);
+    return (value ^ top) - top;
+}
+
 static inline uint32_t unpack(const uint8_t *record, uint64_t word, uint64_t turned)
 {
     uint64_t mask = ((uint64_t)1 << record[BIT_LENGTH]) - 1;
-    if (record[ORDER] == LITTLE)
-        return (uint32_t)(word >> record[START_BIT] & mask);
-    return (uint32_t)(turned >> (record[START_BIT] ^ 56u) & mask);
+    if ((record[ORDER] & BIG) == 0)
+        return extended(record, (uint32_t)(word >> record[START_BIT] & mask));
+    return extended(record, (uint32_t)(turned >> (record[START_BIT] ^ 56u) & mask));
+}
+
+/* The bit that is turned over in values of an object to compare them: the highest one, where they are signed. */
+static inline uint32_t sign_of(const uint8_t *record)
+{
+    return (uint32_t)(record[ORDER] & SIGNED) << 30;
+}
+
+static inline int below(uint32_t sign, uint32_t a, uint32_t b)
+{
+    return (a ^ sign) < (b ^ sign);
 }
 
 /* ---- Filters and delivery */
@@ -86,7 +105,7 @@ static inline uint32_t unpack(const uint8_t *record, uint64_t word, uint64_t tur
 static inline int passes(const uint8_t *record, const uint8_t *row, uint32_t new)
 {
     uint32_t first = load32(record + FIRST_CONSTANT), second = load32(record + SECOND_CONSTANT);
-    uint32_t old = load32(row + OLD);
+    uint32_t old = load32(row + OLD), sign = sign_of(record);
     switch (record[FILTER]) {
     case 0:
         return 1;
@@ -103,17 +122,17 @@ static inline int passes(const uint8_t *record, const uint8_t *row, uint32_t new
     case 7:
         return ((new ^ old) & first) != 0;
     case 8:
-        return first <= new && new <= second;
+        return !below(sign, new, first) && !below(sign, second, new);
     case 9:
-        return new < first || second < new;
+        return below(sign, new, first) || below(sign, second, new);
     case 10:
-        return new > old;
+        return below(sign, old, new);
     case 11:
-        return new <= old;
+        return !below(sign, old, new);
     case 12:
-        return new < old;
+        return below(sign, new, old);
     case 13:
-        return new >= old;
+        return !below(sign, new, old);
     case ONE_EVERY_N:
         return row[OCCURRENCE] == second;
     default:

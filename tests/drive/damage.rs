@@ -17,7 +17,20 @@ pub enum Kind {
     OddHex,
     NoHexDigit,
     BlankInHex,
-    Sign,
+    Plus,
+    /// A minus in front of a number of an object or I-PDU, and of good.
+    MinusNumber,
+    MinusGood,
+    /// Values: -0, with zeros behind the minus, two minuses, a minus alone, too far below zero, a
+    /// minus behind a digit, with a blank or a plus behind it.
+    MinusZero,
+    MinusLeadingZero,
+    TwoMinuses,
+    MinusAlone,
+    MinusTooFar,
+    MinusBehind,
+    MinusApart,
+    MinusPlus,
     LeadingZero,
     Above32Bits,
     FarAbove32Bits,
@@ -43,12 +56,20 @@ pub enum Kind {
 use Kind::*;
 
 #[rustfmt::skip]
-pub const KINDS: [Kind; 33] = [
+pub const KINDS: [Kind; 43] = [
     BlankLine, BlanksAlone, CarriageReturn, TwoBlanks, LeadingBlank, TrailingBlank, NoBlank, Tab,
-    LowerHex, OddHex, NoHexDigit, BlankInHex, Sign, LeadingZero, Above32Bits, FarAbove32Bits,
-    NoDecimal, GoodIsTwo, GoodIsMore, UnknownName, NameCut, NameLengthened, NameUpper,
-    NameWithBlank, FieldMissing, FieldTooMany, ByteZero, HighByte, LongName, LongNumber,
+    LowerHex, OddHex, NoHexDigit, BlankInHex, Plus, MinusNumber, MinusGood, MinusZero,
+    MinusLeadingZero, TwoMinuses, MinusAlone, MinusTooFar, MinusBehind, MinusApart, MinusPlus,
+    LeadingZero, Above32Bits, FarAbove32Bits, NoDecimal, GoodIsTwo, GoodIsMore, UnknownName,
+    NameCut, NameLengthened, NameUpper, NameWithBlank, FieldMissing, FieldTooMany, ByteZero, HighByte, LongName, LongNumber,
     LongBlanks, LongHexFaultAtEnd, NoLineFeed,
+];
+
+/// Faults of the value of a send or an initialise.
+#[rustfmt::skip]
+const OF_VALUES: [Kind; 8] = [
+    MinusZero, MinusLeadingZero, TwoMinuses, MinusAlone, MinusTooFar, MinusBehind, MinusApart,
+    MinusPlus,
 ];
 
 #[rustfmt::skip]
@@ -62,6 +83,13 @@ const NO_NAMES: [&str; 14] = [
 const TOO_LARGE: [&str; 10] = [
     "4294967296", "4294967297", "4294967299", "4294967305", "5000000000", "8589934592",
     "9999999999", "42949672950", "18446744073709551615", "18446744073709551616",
+];
+
+/// Below -2,147,483,648: the greatest, some whose low 32 or 64 bits are small or at an end, others.
+#[rustfmt::skip]
+const TOO_FAR: [&str; 10] = [
+    "-2147483649", "-2147483650", "-2999999999", "-4294967295", "-4294967296", "-4294967297",
+    "-6442450944", "-9999999999", "-18446744073709551615", "-21474836480",
 ];
 
 /// How many bytes a long indication has; some end near a power of two of the line's bytes.
@@ -156,16 +184,29 @@ fn in_a_field(run: &mut Run, kind: Kind, line: &[u8]) -> Option<Vec<u8>> {
     }
     match kind {
         NameCut | NameLengthened | NameUpper | LongName => name(run, kind, &mut fields[0]),
-        Sign | LeadingZero | Above32Bits | FarAbove32Bits | NoDecimal | LongNumber => {
+        Plus | LeadingZero | Above32Bits | FarAbove32Bits | NoDecimal | LongNumber => {
             if decimals == 0 {
                 return None;
             }
             let at = 1 + run.below(decimals);
             decimal(run, kind, &mut fields[at]);
         }
+        MinusNumber => fields.get_mut(1)?.insert(0, b'-'),
+        MinusGood => {
+            if !is_one_of(&fields, &["indication", "confirm"]) {
+                return None;
+            }
+            fields.get_mut(2)?.insert(0, b'-');
+        }
+        _ if OF_VALUES.contains(&kind) => {
+            if !is_one_of(&fields, &["send", "initialise"]) {
+                return None;
+            }
+            minus(run, kind, fields.get_mut(2)?);
+        }
         LowerHex | OddHex | NoHexDigit | BlankInHex => hex(run, kind, fields.get_mut(3)?)?,
         GoodIsTwo | GoodIsMore => {
-            if !matches!(&fields[0][..], b"indication" | b"confirm") || decimals < 2 {
+            if !is_one_of(&fields, &["indication", "confirm"]) || decimals < 2 {
                 return None;
             }
             let more = ["3", "7", "10", "11", "00", "01", "255", "256", "4294967295", "A"];
@@ -188,6 +229,28 @@ fn in_a_field(run: &mut Run, kind: Kind, line: &[u8]) -> Option<Vec<u8>> {
     Some(fields.join(&b' '))
 }
 
+fn is_one_of(fields: &[Vec<u8>], names: &[&str]) -> bool {
+    names.iter().any(|name| name.as_bytes() == fields[0])
+}
+
+/// A value with a minus that can't be read; with another fault already it may have no digit.
+fn minus(run: &mut Run, kind: Kind, value: &mut Vec<u8>) {
+    let digits: Vec<u8> = value.iter().copied().filter(u8::is_ascii_digit).collect();
+    let digits = std::str::from_utf8(&digits).expect("digits");
+    let (front, back) = digits.split_at((1 + run.below(10)).min(digits.len()));
+    *value = match kind {
+        MinusZero => String::from("-0"),
+        MinusLeadingZero => format!("-{}{digits}", run.pick(&["0", "00", "0000000000"])),
+        TwoMinuses => format!("-{}{digits}", run.pick(&["-", "--", "-0-"])),
+        MinusAlone => String::from(run.pick(&["-", "-", "--"])),
+        MinusTooFar => String::from(run.pick(&TOO_FAR)),
+        MinusBehind => format!("{front}-{back}"),
+        MinusApart => format!("- {digits}"),
+        _ => format!("{}{digits}", run.pick(&["-+", "+-"])),
+    }
+    .into_bytes();
+}
+
 fn name(run: &mut Run, kind: Kind, name: &mut Vec<u8>) {
     let (first, at) = (run.below(3) == 0, run.below(name.len()));
     match kind {
@@ -207,7 +270,7 @@ fn name(run: &mut Run, kind: Kind, name: &mut Vec<u8>) {
 
 fn decimal(run: &mut Run, kind: Kind, field: &mut Vec<u8>) {
     match kind {
-        Sign => field.insert(0, run.pick(b"+-")),
+        Plus => field.insert(0, b'+'),
         LeadingZero => drop(field.splice(0..0, vec![b'0'; run.pick(&[1, 1, 2, 9, 10])])),
         Above32Bits => *field = run.pick(&TOO_LARGE).into(),
         FarAbove32Bits => *field = vec![b'1' + run.below(9) as u8; 21 + run.below(500)],
@@ -220,6 +283,9 @@ fn decimal(run: &mut Run, kind: Kind, field: &mut Vec<u8>) {
             field.extend(vec![digit; run.pick(&LONG) + 10]);
             if digit == b'0' {
                 field[0] = run.pick(b"01");
+            }
+            if run.below(3) == 0 {
+                field.insert(0, b'-');
             }
         }
     }

@@ -27,7 +27,7 @@ impl Test {
             self.compare(&table, &noise);
             self.met.note(Event::RandomScript);
             let calls = lines::calls(&mut self.run, &mut script::stopped(&table), 20);
-            let (text, table) = (lines::text(&calls), self.noise());
+            let (text, table) = (lines::text(&mut self.run, &calls), self.noise());
             self.refused_by_5(&table, &text, 20);
             self.met.note(Event::RandomTable);
             self.compare(&table, b"");
@@ -68,7 +68,7 @@ impl Test {
             for end in ["", "tick \n", "tic", "tick"] {
                 let table = make::right(&mut self.run);
                 let calls = lines::calls(&mut self.run, &mut script::stopped(&table), count);
-                let text = [&lines::text(&calls), end.as_bytes()].concat();
+                let text = [&lines::text(&mut self.run, &calls), end.as_bytes()].concat();
                 self.compare_by(&table, &text, Some(Piped::Script(size)));
                 self.met.note_piped(Piped::Script(size));
                 self.compare_by(&table, &text, Some(Piped::Table(size)));
@@ -98,7 +98,8 @@ impl Test {
             }
         };
         let calls = lines::calls(&mut self.run, &mut script::stopped(&table), 1_000_000);
-        let printed = self.compare(&table, &[&lines::text(&calls)[..], b"tick \n"].concat());
+        let text = lines::text(&mut self.run, &calls);
+        let printed = self.compare(&table, &[&text[..], b"tick \n"].concat());
         assert!(printed.ends_with(b"\n9 1000001\n"));
         self.met.note(Event::Million);
     }

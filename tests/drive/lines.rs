@@ -32,6 +32,26 @@ pub fn write(call: &Call) -> Vec<u8> {
     line.into_bytes()
 }
 
+/// The line of a call, with the value of a send or an initialise below zero where its 32 bits may
+/// mean that.
+pub fn write_below_zero(call: &Call) -> Vec<u8> {
+    let line = match call {
+        Call::Send { object, value } => format!("send {object} {}", *value as i32),
+        Call::Initialise { object, value } => format!("initialise {object} {}", *value as i32),
+        _ => return write(call),
+    };
+    line.into_bytes()
+}
+
+/// The line of a call in either form.
+pub fn write_any(run: &mut Run, call: &Call) -> Vec<u8> {
+    if run.below(2) == 0 {
+        write(call)
+    } else {
+        write_below_zero(call)
+    }
+}
+
 /// Random calls; the layer goes along, so that they meet interesting places.
 pub fn calls(run: &mut Run, layer: &mut Layer, count: usize) -> Vec<Call> {
     let style = run.below(4);
@@ -44,9 +64,9 @@ pub fn calls(run: &mut Run, layer: &mut Layer, count: usize) -> Vec<Call> {
     list
 }
 
-/// The lines of the calls, each with its line feed.
-pub fn text(calls: &[Call]) -> Vec<u8> {
-    joined(&calls.iter().map(write).collect::<Vec<_>>())
+/// The lines of the calls, in either form, each with its line feed.
+pub fn text(run: &mut Run, calls: &[Call]) -> Vec<u8> {
+    joined(&calls.iter().map(|call| write_any(run, call)).collect::<Vec<_>>())
 }
 
 pub fn joined(lines: &[Vec<u8>]) -> Vec<u8> {

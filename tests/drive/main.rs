@@ -13,6 +13,7 @@ mod lines;
 #[path = "../layer/make.rs"]
 mod make;
 mod met;
+mod met_signed;
 mod program;
 #[path = "../layer/records.rs"]
 mod records;
@@ -26,7 +27,7 @@ mod table;
 
 use call::Call;
 use damage::{damaged, Kind, FAULTS_AT_END, KINDS, LONG};
-use lines::{joined, text, write};
+use lines::{joined, text, write, write_any, write_below_zero};
 use met::{Event, Met};
 use program::{Piped, Program};
 use table::Run;
@@ -84,14 +85,25 @@ impl Test {
     }
 
     fn compare_calls(&mut self, table: &[u8], calls: &[Call]) -> Vec<u8> {
-        let text = text(calls);
-        for (line, call) in text.split(|b| *b == b'\n').zip(calls) {
-            let read = script::read(line).unwrap_or_else(|| panic!("{call:?} is written wrong"));
-            assert!(write(&read) == line, "{call:?} is read otherwise");
+        let text = text(&mut self.run, calls);
+        let lines: Vec<&[u8]> = text.split(|b| *b == b'\n').collect();
+        for (line, call) in lines.iter().zip(calls) {
+            assert_eq!(script::read(line).as_ref(), Some(call), "{} is read", shown(line));
         }
         let printed = self.compare(table, &text);
         self.met.note_calls(calls, &printed);
+        self.met.note_signed(&script::stopped(table), calls, &lines, &printed);
         text
+    }
+
+    /// All values as they are, and all that may be below zero written so: the same is printed.
+    fn both_forms(&mut self, table: &[u8]) {
+        let calls = lines::calls(&mut self.run, &mut script::stopped(table), 100);
+        let forms = [write, write_below_zero].map(|form| {
+            let lines: Vec<Vec<u8>> = calls.iter().map(form).collect();
+            self.compare(table, &joined(&lines))
+        });
+        assert!(forms[0] == forms[1], "either form prints the same");
     }
 
     /// Some right lines, then one with a fault of this kind, then mostly some more.
@@ -104,17 +116,19 @@ impl Test {
         let calls = lines::calls(run, &mut layer, before);
         let line = loop {
             let call = make::call(run, &layer, 0);
-            if let Some(line) = damaged(run, kind, &write(&call)) {
+            let right = write_any(run, &call);
+            if let Some(line) = damaged(run, kind, &right) {
                 break line;
             }
         };
         assert_eq!(script::read(&line).is_some(), kind == Kind::NoLineFeed, "{}", shown(&line));
-        let mut script = [text(&calls), line].concat();
+        let mut script = [text(run, &calls), line].concat();
         let mut after = 0;
         if kind != Kind::NoLineFeed {
             after = run.pick(&[0, 1, 3]);
             script.push(b'\n');
-            script.extend(text(&lines::calls(run, &mut layer, after)));
+            let calls = lines::calls(run, &mut layer, after);
+            script.extend(text(run, &calls));
         }
         let printed = self.compare(&table, &script);
         let end = format!("9 {}\n", before + 1);
@@ -138,7 +152,7 @@ impl Test {
         let run = &mut self.run;
         let count = 1 + run.below(30);
         let calls = lines::calls(run, &mut script::stopped(table), count);
-        let mut lines: Vec<Vec<u8>> = calls.iter().map(write).collect();
+        let mut lines: Vec<Vec<u8>> = calls.iter().map(|call| write_any(run, call)).collect();
         for _ in 0..run.pick(&[0, 1, 2, 4]) {
             let (at, kind) = (run.below(count), run.pick(&KINDS));
             if let Some(line) = damaged(run, kind, &lines[at]) {
@@ -150,7 +164,7 @@ impl Test {
             let at = run.below(script.len() + 1);
             let end = (at + run.below(3)).min(script.len());
             let any = run.below(256) as u8;
-            let byte = run.pick(&[b'\n', b' ', b'0', b'1', b'9', b'A', b'a', b'_', b'\r', 0, any]);
+            let byte = run.pick(&[b'-', b'\n', b' ', b'0', b'1', b'9', b'A', b'a', b'_', 0, any]);
             script.splice(at..end, vec![byte; run.below(2)]);
         }
         if run.below(6) == 0 {
@@ -193,6 +207,7 @@ impl Test {
         for _ in 0..6 {
             self.mixed_script(table);
         }
+        self.both_forms(table);
     }
 }
 

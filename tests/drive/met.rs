@@ -40,16 +40,41 @@ pub enum Event {
     RandomScript,
     EmptyScript,
     Million,
+    /// Values with a minus: sent, initialised, sent with a request; to a signed object, to another,
+    /// to none; -1 and the least. The same bits without a minus.
+    MinusSent,
+    MinusInitialised,
+    MinusRequested,
+    MinusToSigned,
+    MinusToUnsigned,
+    MinusToNoObject,
+    MinusOne,
+    MinusLeast,
+    BelowZeroWithoutMinus,
+    /// Received values as printed: below zero with 0 and with 3, the least of all, of a signed
+    /// object above zero, of another from 2,147,483,648 on; below zero in fewer than 32 bits; one
+    /// that does not fit a signed object's bits.
+    PrintedBelowZero,
+    PrintedBelowZeroWithThree,
+    PrintedLeastOfAll,
+    PrintedSignedAboveZero,
+    PrintedUnsignedAboveHalf,
+    PrintedBelowZeroOfFewBits,
+    PrintedWhole,
 }
 use Event::*;
 
 #[rustfmt::skip]
-const EVENTS: [Event; 28] = [
+const EVENTS: [Event; 44] = [
     ReceivedWithZero, ReceivedWithThree, MarksRead, StatusThreeWithoutValue, RequestBySend,
     RequestByTick, SeveralRequests, BeforeFirstStart, StartedAgain, NineBytes, HundredBytes,
     HundredThousandBytes, NoBytes, GreatestDecimal, DamageFirst, DamageLast, DamageWithLinesAfter,
     DamageBeforeStart, DamageOverWrongTable, MixedUnreadable, MixedReadable, WrongTable,
-    RandomTable, TooLongTable, EmptyTable, RandomScript, EmptyScript, Million,
+    RandomTable, TooLongTable, EmptyTable, RandomScript, EmptyScript, Million, MinusSent,
+    MinusInitialised, MinusRequested, MinusToSigned, MinusToUnsigned, MinusToNoObject, MinusOne,
+    MinusLeast, BelowZeroWithoutMinus, PrintedBelowZero, PrintedBelowZeroWithThree,
+    PrintedLeastOfAll, PrintedSignedAboveZero, PrintedUnsignedAboveHalf, PrintedBelowZeroOfFewBits,
+    PrintedWhole,
 ];
 
 /// The sizes of the pieces through a pipe.
@@ -146,7 +171,6 @@ impl Met {
 
     fn note_bytes(&mut self, call: &Call) {
         match call {
-            Call::Send { value: u32::MAX, .. } => self.note(GreatestDecimal),
             Call::Indication { bytes, .. } => match bytes.len() {
                 0 => self.note(NoBytes),
                 9 => self.note(NineBytes),

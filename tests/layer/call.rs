@@ -1,6 +1,6 @@
 //! A call of the layer with its arguments, in the order of document 01.
 
-#[derive(Clone, Debug)]
+#[derive(Clone, Debug, PartialEq)]
 pub enum Call {
     Start,
     Stop,

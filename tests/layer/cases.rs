@@ -19,7 +19,7 @@ pub struct Case {
 }
 
 impl Case {
-    fn new(ipdus: &[[u8; 16]], objects: &[[u8; 32]]) -> Case {
+    pub fn new(ipdus: &[[u8; 16]], objects: &[[u8; 32]]) -> Case {
         let table = join(ipdus, objects);
         let (reference, library) = (Layer::new(&table), Library::new(&table));
         let (memory, area, sheets) = ([0xA5; 8192], [0xA5; 256], vec![vec![0; 528]; 2]);
@@ -33,7 +33,7 @@ impl Case {
     }
 
     /// Over one I-PDU and one object of it.
-    fn started(ipdu: [u8; 16], object: [u8; 32]) -> Case {
+    pub fn started(ipdu: [u8; 16], object: [u8; 32]) -> Case {
         Case::started_with(&[ipdu], &[object])
     }
 
@@ -62,11 +62,11 @@ impl Case {
         ((ours.number, ours.value), s)
     }
 
-    fn send(&mut self, value: u32) -> (u32, u32) {
+    pub fn send(&mut self, value: u32) -> (u32, u32) {
         self.ask(Call::Send { object: 0, value })
     }
 
-    fn receive(&mut self) -> (u32, u32) {
+    pub fn receive(&mut self) -> (u32, u32) {
         self.ask(Call::Receive { object: 0 })
     }
 
@@ -74,11 +74,11 @@ impl Case {
         self.ask(Call::Marks { object: 0 })
     }
 
-    fn indicate(&mut self, bytes: &[u8]) -> (u32, u32) {
+    pub fn indicate(&mut self, bytes: &[u8]) -> (u32, u32) {
         self.ask(Call::Indication { ipdu: 0, good: true, bytes: bytes.to_vec() })
     }
 
-    fn confirm(&mut self) -> (u32, u32) {
+    pub fn confirm(&mut self) -> (u32, u32) {
         self.ask(Call::Confirm { ipdu: 0, good: true })
     }
 
@@ -87,14 +87,14 @@ impl Case {
     }
 
     /// The area: the frame with zeros to 8 in slot 0, and the other slots as they were.
-    fn has_frame(&self, frame: [u8; 4]) {
+    pub fn has_frame(&self, frame: [u8; 4]) {
         assert_eq!(self.area[..8], [frame, [0; 4]].concat());
         assert_eq!(self.area[8..], [0xA5; 248]);
     }
 
     /// The numbers, from 1 on, of the sends that passed: of those that made a request, where
     /// each request is confirmed before the next send.
-    fn passed(&mut self, values: &[u32]) -> Vec<usize> {
+    pub fn passed(&mut self, values: &[u32]) -> Vec<usize> {
         let mut list = Vec::new();
         for (i, value) in values.iter().enumerate() {
             if self.send(*value) == (0, 1) {
@@ -107,15 +107,15 @@ impl Case {
 }
 
 const NO_REQUEST: (u32, u32) = (0, 0);
-const REQUEST: (u32, u32) = (0, 1);
+pub const REQUEST: (u32, u32) = (0, 1);
 
 /// I-PDU 0, sent direct, of 4 bytes.
-fn direct(minimum_delay: u16, deadline: u16) -> [u8; 16] {
+pub fn direct(minimum_delay: u16, deadline: u16) -> [u8; 16] {
     ipdu(1, 4, 0, [0, 0, minimum_delay, deadline, 0])
 }
 
 /// An object of I-PDU 0, triggered where it is sent.
-fn placed(kind: u8, start: u8, size: u8, order: u8) -> [u8; 32] {
+pub fn placed(kind: u8, start: u8, size: u8, order: u8) -> [u8; 32] {
     object(&[kind, 0, 255, start, size, order])
 }
 

@@ -168,10 +168,71 @@ pub enum Event {
     SheetDrainsSixteen,
     SheetDrainsNoObject,
     SheetSharesAnObject,
+    /// Accepted tables with a signed object: sent and received in either order, with no I-PDU on
+    /// either side, inside. Tables that are wrong by one order alone: 1, 3 and more without an
+    /// I-PDU, 4 and 255 in one.
+    SignedLittleSent,
+    SignedBigSent,
+    SignedLittleReceived,
+    SignedBigReceived,
+    SignedSentAlone,
+    SignedReceivedAlone,
+    SignedInside,
+    OrderOneAlone,
+    OrderThreeAlone,
+    OrderAboveAlone,
+    OrderFourPlaced,
+    Order255Placed,
+    /// Signed objects in a good indication: below zero in either order, and not below; of 1 bit and
+    /// of 32 below zero; of 2 to 31 the least, the greatest and -1. The same bits read as signed
+    /// and not, to two values.
+    BelowZeroLittle,
+    BelowZeroBig,
+    NotBelowLittle,
+    NotBelowBig,
+    OneBitBelowZero,
+    ThirtyTwoBitsBelowZero,
+    LeastOfItsBits,
+    GreatestOfItsBits,
+    MinusOneOfItsBits,
+    ReadBothWays,
+    /// Values that a signed object's bits do not hold, and that are not cut: initial ones and
+    /// initialised ones of a receive object, received; delivered inside from a signed object; an
+    /// old one, sent, initialised or initial, by which a filter judges otherwise than by its bits.
+    InitialReceivedWhole,
+    InitialisedReceivedWhole,
+    DeliveredInsideWhole,
+    OldComparedWhole,
+    /// Delivered inside below zero; where sender and receiver differ in sign, judged by the
+    /// receiver's: signed, and not.
+    InsideBelowZero,
+    InsideJudgedSigned,
+    InsideJudgedUnsigned,
+    /// Values below zero, queued and not, received.
+    BelowZeroReceived,
+    BelowZeroQueued,
+    /// A signed reading stored last and read back: exactly, below zero; ones that do not fit,
+    /// initial or sent, and initialised.
+    ReadBackExactly,
+    ReadBackBelowZero,
+    ReadBackCut,
+    InitialisedReadBackCut,
+    /// Objects of a sheet that was begun and that nobody else has written, at a drain. Signed:
+    /// least below zero and greatest not; all below; a least that falls below zero, a greatest that
+    /// rises above; the least of all. Not signed: on both sides of 2,147,483,648. Both in one
+    /// sheet. A line with four minuses that is as long as may be, but for the object's number.
+    SheetAroundZero,
+    SheetAllBelowZero,
+    SheetLeastFallsBelowZero,
+    SheetGreatestRisesAboveZero,
+    SheetLeastOfAll,
+    SheetUnsignedAroundHalf,
+    SheetOfBothSigns,
+    DrainLongestLine,
 }
 use Event::*;
 
-pub const EVENTS: [Event; 120] = [
+pub const EVENTS: [Event; 163] = [
     RequestBySend, PostponedBySend, RequestByTick, PostponedMadeByTick, DelayRunOut, DeadlineRunOut,
     FiredOpenPeriodic, FiredOpenMixed, FiredWanted, ReceiveTimerRunOut, StopPeriodicWanted,
     StartRunning, StartOpen, ShortAreaSend, ShortAreaTick, ValueLost,
@@ -199,4 +260,13 @@ pub const EVENTS: [Event; 120] = [
     SheetLeastAboveZero, SheetDrainsZero, SheetDrainsGreatest, SheetOverflow, SheetSixteenValues,
     SheetErrorAlone, SheetErrorAndArrived, SheetSecondError, SheetErrorWithNoValue, SheetMarksLeft,
     SheetStartBetween, SheetDrainsSixteen, SheetDrainsNoObject, SheetSharesAnObject,
+    SignedLittleSent, SignedBigSent, SignedLittleReceived, SignedBigReceived, SignedSentAlone,
+    SignedReceivedAlone, SignedInside, OrderOneAlone, OrderThreeAlone, OrderAboveAlone,
+    OrderFourPlaced, Order255Placed, BelowZeroLittle, BelowZeroBig, NotBelowLittle, NotBelowBig,
+    OneBitBelowZero, ThirtyTwoBitsBelowZero, LeastOfItsBits, GreatestOfItsBits, MinusOneOfItsBits,
+    ReadBothWays, InitialReceivedWhole, InitialisedReceivedWhole, DeliveredInsideWhole,
+    OldComparedWhole, InsideBelowZero, InsideJudgedSigned, InsideJudgedUnsigned, BelowZeroReceived,
+    BelowZeroQueued, ReadBackExactly, ReadBackBelowZero, ReadBackCut, InitialisedReadBackCut,
+    SheetAroundZero, SheetAllBelowZero, SheetLeastFallsBelowZero, SheetGreatestRisesAboveZero,
+    SheetLeastOfAll, SheetUnsignedAroundHalf, SheetOfBothSigns, DrainLongestLine,
 ];

@@ -2,12 +2,13 @@
 //! layer, the value that it kept last since the last start, and when. Each bit of a send I-PDU must
 //! be that of the latest of these whose reading covers it, and 0 where none does; so the reading
 //! stored last unpacks to its low bits, and an older one has its own bit wherever no later one
-//! covers it. The library is held to it by what is compared after each call.
+//! covers it. A signed reading stored last gives a value back exactly that fits its bits (W-207).
+//! The library is held to it by what is compared after each call.
 
 use crate::act::Act;
 use crate::call::Call;
 use crate::met::Event;
-use crate::records::{unpack, Object};
+use crate::records::Object;
 use crate::reference::Layer;
 use Event::*;
 
@@ -74,7 +75,7 @@ impl Latest {
                 o.ipdu == Some(k) && kept.is_some_and(|kept| kept.at >= many)
             };
             if act.is_start() || after.objects.iter().zip(&self.kept).any(here) {
-                met.extend(self.look(after, k)?.then_some(OlderInPart));
+                met.extend(self.look(after, k)?);
             } else if p.bytes != before.ipdus[k].bytes {
                 return Err(format!("I-PDU {k} was changed by no value"));
             }
@@ -148,8 +149,8 @@ impl Latest {
         layer.objects.iter().enumerate().filter_map(covers).max_by_key(|(_, _, kept)| kept.at)
     }
 
-    /// Every bit and every reading of a send I-PDU; whether one is covered in part.
-    fn look(&self, layer: &Layer, k: usize) -> Result<bool, String> {
+    /// Every bit and every reading of a send I-PDU; gives what it has met.
+    fn look(&self, layer: &Layer, k: usize) -> Result<Vec<Event>, String> {
         let bytes = &layer.ipdus[k].bytes;
         for place in 0..8 * layer.ipdus[k].length {
             let found = self.latest(layer, k, place);
@@ -161,9 +162,9 @@ impl Latest {
         let pairs = layer.objects.iter().zip(&self.kept).filter(|(o, _)| o.ipdu == Some(k));
         let all: Vec<(&Object, Kept)> = pairs.filter_map(|(o, kept)| Some((o, (*kept)?))).collect();
         let last = all.iter().map(|(_, kept)| kept.at).max();
-        let mut in_part = false;
+        let mut met = Vec::new();
         for (o, kept) in &all {
-            let (reading, size) = (unpack(&o.bits, bytes), o.bits.len());
+            let (reading, size) = (o.reading(bytes), o.bits.len());
             let later = |bit| all.iter().any(|(p, q)| q.at > kept.at && p.bits.contains(bit));
             let covered = o.bits.iter().enumerate().filter(|(_, bit)| later(*bit));
             let covered = covered.fold(0u32, |word, (n, _)| word | 1 << n);
@@ -173,9 +174,27 @@ impl Latest {
             if Some(kept.at) == last && covered != 0 {
                 return Err(String::from("the reading stored last is covered"));
             }
-            in_part |= 0 < covered.count_ones() && (covered.count_ones() as usize) < size;
+            if Some(kept.at) == last && o.signed {
+                met.push(read_back(o, kept, reading)?);
+            }
+            if 0 < covered.count_ones() && (covered.count_ones() as usize) < size {
+                met.push(OlderInPart);
+            }
         }
-        Ok(in_part)
+        Ok(met)
+    }
+}
+
+/// A signed value stored last and what is read of it, which has the same low bits.
+fn read_back(o: &Object, kept: &Kept, reading: u32) -> Result<Event, String> {
+    let (value, initialised) = (kept.value, kept.by == By::Initialise);
+    match (o.fits(value), o.fits(reading)) {
+        (true, _) if reading != value => Err(format!("{reading} is read back for {value}")),
+        (_, false) => Err(format!("{reading} is read back of {} bits", o.bits.len())),
+        (false, _) if initialised => Ok(InitialisedReadBackCut),
+        (false, _) => Ok(ReadBackCut),
+        _ if o.meant(value) < 0 => Ok(ReadBackBelowZero),
+        _ => Ok(ReadBackExactly),
     }
 }
 

@@ -320,7 +320,8 @@ impl List<'_> {
             self.over(test, act, memory);
         }
         let mut restored = None;
-        if let (Act::Sheet(on), 0) = (act, test.run.below(4)) {
+        let seldom = if self.reference.stopped { 2 } else { 4 };
+        if let (Act::Sheet(on), 0) = (act, test.run.below(seldom)) {
             let (n, sheets) = (on.number(self.sheets.len()), self.sheets.clone());
             if !make_sheet::damage(&mut test.run, &self.reference, &mut self.sheets[n]) {
                 restored = Some(sheets);

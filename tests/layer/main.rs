@@ -6,9 +6,9 @@
 //! same. So are begins and drains of journey sheets; sheet and text must be as the reference says,
 //! single receives must leave the same memory, and journeys.rs works out all numbers anew. Of an
 //! object with filter 14 the row of filterings must be as rows.rs says, and the bits of readings
-//! that overlap as kept.rs says; in most tables some do. Arguments, both optional: the seed, the
-//! least number of calls. With `--cfg own` a second copy of the reference stands in for the
-//! library, to try the test alone.
+//! that overlap as kept.rs says; in most tables some do. Half of the objects are signed. Arguments,
+//! both optional: the seed, the least number of calls. With `--cfg own` a second copy of the
+//! reference stands in for the library, to try the test alone.
 
 mod act;
 mod call;
@@ -27,12 +27,14 @@ mod memories;
 mod met;
 mod met_group;
 mod met_sheet;
+mod met_signed;
 mod ranges;
 mod records;
 mod reference;
 mod rows;
 mod sheet;
 mod sheet_cases;
+mod signed_cases;
 mod stored;
 #[allow(dead_code)]
 #[path = "../table.rs"]
@@ -62,6 +64,7 @@ impl Test {
     fn right_table(&mut self, table: &[u8]) {
         self.right_tables += 1;
         self.run.compare(table);
+        self.met.note_signed_objects(table);
         let lent = self.lent();
         let (m, a) = (lent.0.len(), lent.1.len());
         let mut list = List::new(table, lent);
@@ -74,6 +77,7 @@ impl Test {
         self.begin_sheets(&mut list);
         self.journey(&mut list);
         self.filter_often(&mut list);
+        self.compare_often(&mut list);
         let style = self.run.below(4);
         for _ in 0..50 + self.run.below(500) {
             let made = act(&mut self.run, &list.reference, style);
@@ -95,17 +99,17 @@ impl Test {
         }
     }
 
-    /// In half of the lists that have a queue, a sheet of few objects with many arrivals.
+    /// In most lists that have a queue, a sheet of few objects with many arrivals.
     fn journey(&mut self, list: &mut List) {
         let queued = list.reference.objects.iter().any(|o| o.depth > 0);
-        if !queued || list.reference.stopped || self.run.below(2) == 0 {
+        if !queued || list.reference.stopped || self.run.below(3) == 0 {
             return;
         }
         let begin = make_sheet::short_begin(&mut self.run, &list.reference, 0);
         list.compare(self, &Act::Sheet(begin.clone()), list.memory.len(), 256);
-        let objects = begin.objects(&list.sheets);
+        let (objects, drains) = (begin.objects(&list.sheets), self.run.pick(&[1, 1, 6]));
         for _ in 0..100 + self.run.below(100) {
-            let made = make_sheet::on_the_way(&mut self.run, &list.reference, 0, &objects);
+            let made = make_sheet::on_the_way(&mut self.run, &list.reference, &objects, drains);
             list.step(self, &made);
         }
     }
@@ -118,6 +122,27 @@ impl Test {
                 let made = make_group::filtering(&mut self.run, &list.reference, object);
                 list.step(self, &made);
             }
+        }
+    }
+
+    /// In a list with signed objects whose filters compare, some filterings of a few of them.
+    fn compare_often(&mut self, list: &mut List) {
+        for _ in 0..self.run.below(10) {
+            let object = make::signed::comparing(&mut self.run, &list.reference);
+            for object in object.iter().cycle().take(16) {
+                let made = make::signed::compare(&mut self.run, &list.reference, *object);
+                list.step(self, &Act::Call(made));
+            }
+        }
+    }
+
+    /// The check alone, on tables that have a wrong order.
+    fn wrong_orders(&mut self, right: &[u8]) {
+        for _ in 0..4 {
+            let mut table = right.to_vec();
+            make::signed::wrong_order(&mut self.run, &mut table);
+            self.run.compare(&table);
+            self.met.note_wrong_order(&table);
         }
     }
 
@@ -157,6 +182,7 @@ fn main() {
     cases::run();
     group_cases::run();
     sheet_cases::run();
+    signed_cases::run();
     let random = seed.wrapping_mul(0x9E37_79B9_7F4A_7C15) | 1;
     let run = Run { random, counts: [0; 4] };
     let (last_memory, last_sheets) = ([0xA5; 8192].to_vec(), Vec::new());
@@ -175,6 +201,7 @@ fn main() {
     while test.calls < least {
         let table = make::right(&mut test.run);
         test.right_table(&table);
+        test.wrong_orders(&table);
         test.wrong_table(&table);
     }
     print!("layer: {} right and {} wrong tables, ", test.right_tables, test.wrong_tables);

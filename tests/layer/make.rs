@@ -1,6 +1,9 @@
 //! The random tables, damage, memories before a start, and calls of the test. The maker of calls
 //! looks at the state of the reference only to choose arguments that meet interesting places.
 
+#[path = "make_signed.rs"]
+pub mod signed;
+
 use crate::call::Call;
 use crate::records::{overlap, pack, Object};
 use crate::reference::Layer;
@@ -14,18 +17,22 @@ fn get_two(t: &[u8], at: usize) -> usize {
     u16::from_le_bytes([t[at], t[at + 1]]) as usize
 }
 
-fn get_four(t: &[u8], at: usize) -> u32 {
+pub fn get_four(t: &[u8], at: usize) -> u32 {
     u32::from_le_bytes([t[at], t[at + 1], t[at + 2], t[at + 3]])
 }
 
-fn put_four(t: &mut [u8], at: usize, value: u32) {
+pub fn put_four(t: &mut [u8], at: usize, value: u32) {
     t[at..at + 4].copy_from_slice(&value.to_le_bytes());
 }
 
 // ---- Tables ----
 
-/// A right table; most have send objects that share bits.
+/// A right table; most have send objects that share bits. One in ten has a signed object of every
+/// sort with each filter that compares.
 pub fn right(run: &mut Run) -> Vec<u8> {
+    if run.below(10) == 0 {
+        return signed::comparing_table(run);
+    }
     let mut t = some_right(run);
     for _ in 0..run.below(3) {
         if !overlap(&Layer::new(&t).objects) {
@@ -36,22 +43,31 @@ pub fn right(run: &mut Run) -> Vec<u8> {
 }
 
 /// With short times and queues, and filters that values can meet; one table in six has many
-/// objects with filter 14, and of the receivers inside one in four has it.
+/// objects with filter 14, and of the receivers inside one in four has it. In one of three most
+/// objects are signed, with filters that compare, and more receivers are inside.
 fn some_right(run: &mut Run) -> Vec<u8> {
     let (ipdus, objects) = match run.below(12) {
         0 => (run.pick(&[0, 0, 1]), run.pick(&[0, 1, 6])),
         1..=7 => (1 + run.below(4), 1 + run.below(10)),
-        8..=10 => (1 + run.below(12), 1 + run.below(40)),
+        8 | 9 => (1 + run.below(12), 1 + run.below(40)),
         _ => (run.pick(&[20, 31, 32]), run.pick(&[100, 127, 128])),
     };
     let mut t = right_table(run, ipdus, objects);
     for record in t[16..16 + 16 * ipdus].chunks_mut(16) {
         shorter_times(run, record);
     }
-    let counts = run.below(6) == 0;
+    let (counts, below_zero) = (run.below(6) == 0, run.below(3) == 0);
+    let is_sender = |at: &usize| t[16 + 16 * ipdus + 32 * at] == 1;
+    let senders: Vec<usize> = (0..objects).filter(is_sender).collect();
     for record in t[16 + 16 * ipdus..].chunks_mut(32) {
         shorter_queue(run, record);
+        if below_zero {
+            signed::below_zero(run, record, &senders);
+        }
         milder_filter(run, record);
+        if record[5] >= 2 {
+            signed::filter(run, record);
+        }
         let inside = record[2] != 255;
         if (counts && run.below(2) == 0) || (inside && run.below(4) == 0) {
             let most = run.pick(&[4, 8, 255]);
@@ -116,9 +132,10 @@ fn one_in(run: &mut Run, record: &mut [u8], most: usize) {
 pub fn wrong(run: &mut Run, right: &[u8]) -> Vec<u8> {
     loop {
         let mut t = right.to_vec();
-        match run.below(6) {
+        match run.below(7) {
             0 => t.truncate(run.below(t.len())),
             1 => t.extend(vec![0; 1 + run.below(32)]),
+            2 => signed::wrong_order(run, &mut t),
             _ => {
                 for _ in 0..1 + run.below(2) {
                     let at = run.below(t.len());
@@ -188,6 +205,7 @@ pub fn call(run: &mut Run, layer: &Layer, style: usize) -> Call {
         4 if run.below(4) == 0 => {
             Call::Receive { object: object_number(run, layer, |o| o.overflow) }
         }
+        4 if run.below(4) == 0 => Call::Receive { object: object_number(run, layer, is_whole) },
         4 => Call::Receive { object: object_number(run, layer, |o| !o.sends) },
         5 => Call::Status { object: object_number(run, layer, |o| o.depth > 0) },
         6 if run.below(4) == 0 => Call::Marks { object: object_number(run, layer, |o| o.overflow) },
@@ -242,6 +260,11 @@ fn is_full(o: &Object) -> bool {
     o.depth > 0 && o.queue.len() == o.depth
 }
 
+/// Whether a receive gives a value that the bits of a signed object do not hold.
+fn is_whole(o: &Object) -> bool {
+    !o.sends && o.depth == 0 && o.signed && !o.fits(o.value)
+}
+
 fn object_number(run: &mut Run, layer: &Layer, wanted: fn(&Object) -> bool) -> u32 {
     number(run, layer.objects.len(), |i| wanted(&layer.objects[i]))
 }
@@ -261,6 +284,9 @@ pub fn value_for(run: &mut Run, layer: &Layer, object: u32) -> u32 {
 }
 
 fn value(run: &mut Run, o: &Object) -> u32 {
+    if o.signed && run.below(3) == 0 {
+        return signed::value(run, o.bits.len());
+    }
     let any = word(run);
     let constant = run.pick(&[o.first, o.second]);
     let step = run.pick(&[1, u32::MAX]);

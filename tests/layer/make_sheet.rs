@@ -3,7 +3,7 @@
 
 use crate::act::Act;
 use crate::call::Call;
-use crate::make::scramble;
+use crate::make::{put_four, scramble};
 use crate::make_group::{self, filtering};
 use crate::reference::Layer;
 use crate::sheet::{rows, OnSheet, What, MOST, SHEET, TEXT};
@@ -54,20 +54,20 @@ pub fn begin(run: &mut Run, layer: &Layer, sheet: usize) -> OnSheet {
 /// A begin of this sheet that is right, with few objects.
 pub fn short_begin(run: &mut Run, layer: &Layer, sheet: usize) -> OnSheet {
     let mut queued = shuffled_queued(run, layer);
-    queued.truncate(1 + run.below(3));
+    queued.truncate(1 + run.below(4));
     OnSheet { sheet, lent: usize::MAX, what: What::Begin(queued) }
 }
 
-/// A call on the way of a sheet: mostly an arrival at one of its objects, else an indication that
-/// is not good, a drain, or anything.
-pub fn on_the_way(run: &mut Run, layer: &Layer, sheet: usize, objects: &[u32]) -> Act {
+/// A call on the way of sheet 0: mostly an arrival at one of its objects, else an indication that is
+/// not good, in so many of forty a drain, or anything.
+pub fn on_the_way(run: &mut Run, layer: &Layer, objects: &[u32], drains: usize) -> Act {
     let object = run.pick(objects) as usize;
     match (run.below(40), layer.objects[object].ipdu) {
         (0, Some(ipdu)) => {
             Act::Call(Call::Indication { ipdu: ipdu as u32, good: false, bytes: Vec::new() })
         }
-        (0 | 1, _) => Act::Sheet(OnSheet { sheet, lent: SHEET, what: drain(run) }),
-        (2..=4, _) => act(run, layer, 0),
+        (0..=3, _) => act(run, layer, 0),
+        (n, _) if n < 4 + drains => Act::Sheet(OnSheet { sheet: 0, lent: SHEET, what: drain(run) }),
         _ => filtering(run, layer, object),
     }
 }
@@ -176,7 +176,9 @@ fn wrong(run: &mut Run, layer: &Layer) -> u32 {
 pub fn damage(run: &mut Run, layer: &Layer, sheet: &mut [u8]) -> bool {
     let count = rows(sheet).map_or(0, |rows| rows.len());
     let row = 8 + 32 * run.below(count.clamp(1, MOST));
-    let stop = u32::MAX - run.below(3) as u32;
+    let (stop, least) = (u32::MAX - run.below(3) as u32, (1 << 31) + run.below(3) as u32);
+    // Ten digits, the second one with a minus too where an object is signed.
+    let long = run.pick(&[stop, least, least]);
     let any = run.below(8);
     match if count == MOST { run.pick(&[any, 5]) } else { any } {
         0 => {
@@ -203,14 +205,13 @@ pub fn damage(run: &mut Run, layer: &Layer, sheet: &mut [u8]) -> bool {
             run.below(8) == 0
         }
         4 => {
-            for at in [4, 24, 28] {
-                put_four(sheet, row + at, stop);
-            }
+            [4, 24, 28].into_iter().for_each(|at| put_four(sheet, row + at, stop));
             true
         }
         5 => {
             for row in (8..8 + 32 * count).step_by(32) {
-                (4..32).step_by(4).for_each(|at| put_four(sheet, row + at, stop));
+                [4, 24, 28].into_iter().for_each(|at| put_four(sheet, row + at, stop));
+                [8, 12, 16, 20].into_iter().for_each(|at| put_four(sheet, row + at, long));
             }
             true
         }
@@ -221,12 +222,8 @@ pub fn damage(run: &mut Run, layer: &Layer, sheet: &mut [u8]) -> bool {
         _ => {
             let at = 4 * run.below(SHEET / 4);
             let any = run.below(1 << 32) as u32;
-            put_four(sheet, at, run.pick(&[0, 1, any]));
+            put_four(sheet, at, run.pick(&[0, 1, 1 << 31, any]));
             run.below(4) == 0
         }
     }
-}
-
-fn put_four(bytes: &mut [u8], at: usize, number: u32) {
-    bytes[at..at + 4].copy_from_slice(&number.to_le_bytes());
 }

@@ -4,6 +4,7 @@ use crate::act::{Act, KINDS};
 use crate::call::Call;
 use crate::events::EVENTS;
 use crate::met_sheet::Refused;
+use crate::met_signed::Judged;
 use crate::records::{Ipdu, Object};
 use crate::reference::Layer;
 use crate::table::Answer;
@@ -28,6 +29,7 @@ pub struct Met {
     /// in their ranges, and where one is not.
     changed: [[u64; 3]; KINDS],
     pub refused: Refused,
+    pub signed: Judged,
 }
 
 impl Met {
@@ -41,6 +43,7 @@ impl Met {
             changed_numbers: [0; 11],
             changed: [[0; 3]; KINDS],
             refused: [[[0; 11]; 11]; 2],
+            signed: Judged::default(),
         }
     }
 
@@ -65,6 +68,7 @@ impl Met {
         match act {
             Act::Call(call) if !call.refused_by(answer.number) => {
                 self.note_done(call, answer, &before.ipdus, &after.ipdus);
+                self.note_signed(call, answer, before, after);
             }
             Act::Call(_) | Act::Sheet(_) => {}
             Act::Group(group) => self.note_group(group, answer, before),
@@ -191,6 +195,7 @@ impl Met {
             look(format!("pass by filter {f}"), passed + (f == 1) as u64);
         }
         list.extend(self.missing_on_sheets());
+        list.extend(self.missing_of_signed());
         list
     }
 
@@ -201,5 +206,6 @@ impl Met {
         println!("over changed memories, answers 0 to 10: {:?}", self.changed_numbers);
         println!("each call done, refused, and with a number out of range: {:?}", self.changed);
         self.print_on_sheets();
+        self.print_of_signed();
     }
 }

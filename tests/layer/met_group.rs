@@ -46,9 +46,10 @@ impl Met {
                 continue;
             }
             let was = layer.clone();
-            let request = layer.call(&pair.send(), 8192, true, &mut [0; 256]).value;
+            let answer = layer.call(&pair.send(), 8192, true, &mut [0; 256]);
             self.note_send(i, &mut so_far, [before, &was, &layer], pair.value);
-            so_far.word |= request;
+            self.note_signed(&pair.send(), answer, &was, &layer);
+            so_far.word |= answer.value;
         }
         self.note(GroupEmpty, pairs.is_empty() as u64);
         self.note(GroupSixteen, (pairs.len() == 16) as u64);

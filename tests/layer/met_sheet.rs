@@ -2,7 +2,7 @@
 
 use crate::met::{Event, Met};
 use crate::reference::Layer;
-use crate::sheet::{has_one_twice, rows, OnSheet, What, MOST, SHEET, TEXT};
+use crate::sheet::{has_one_twice, rows, OnSheet, Row, What, LONGEST, MOST, SHEET, TEXT};
 use crate::table::Answer;
 use Event::*;
 
@@ -32,7 +32,11 @@ impl Met {
         }
         let events = match &on.what {
             What::Begin(objects) => begun(objects, answer, was, layer),
-            What::Drain(_, _, lent) if answer.number == 0 => drained(*lent, answer, was, is),
+            What::Drain(_, _, lent) if answer.number == 0 => {
+                let mut events = drained(*lent, answer, was, is);
+                events.push((DrainLongestLine, has_longest(is, layer)));
+                events
+            }
             What::Drain(_, _, lent) => not_drained(*lent, answer, due, was),
         };
         events.into_iter().filter(|(_, is)| *is).for_each(|(event, _)| self.note(event, 1));
@@ -106,6 +110,12 @@ fn drained(text: usize, answer: Answer, was: &[u8], is: &[u8]) -> Events {
         (DrainErrorsStop, stops(7)),
         (DrainErrorsReachTheirEnd, reaches(7)),
     ]
+}
+
+/// Whether one of a sheet's lines is as long as may be, but for the number of its object.
+fn has_longest(sheet: &[u8], layer: &Layer) -> bool {
+    let length = |row: &Row| row.line(layer.is_signed(row.object)).len();
+    rows(sheet).iter().flatten().any(|row| length(row) >= LONGEST - 2)
 }
 
 fn not_drained(text: usize, answer: Answer, due: &[u32], sheet: &[u8]) -> Events {

@@ -1,7 +1,8 @@
 //! The records of the table, read from its bytes, with what is kept of each I-PDU and object;
 //! the bits of an object; its filter. Written from document 01 alone; how the count of filter 14
-//! goes on, from request W-203 of document 02.
+//! goes on, from request W-203 of document 02, and signed objects from W-207.
 
+use crate::table::is_big;
 use std::collections::VecDeque;
 
 // ---- The table ----
@@ -36,6 +37,8 @@ pub struct Object {
     pub sender: Option<usize>,
     /// The I-PDU bits that message bits 0, 1, 2 and on go to.
     pub bits: Vec<usize>,
+    /// Whether its values are signed: byte order 2 or 3.
+    pub signed: bool,
     pub triggered: bool,
     pub depth: usize,
     pub filter: u8,
@@ -99,7 +102,8 @@ pub fn object_of(record: &[u8]) -> Object {
         sends: record[0] == 1,
         ipdu: unless_none(record[1]),
         sender: unless_none(record[2]),
-        bits: bits(record[3] as usize, record[4] as usize, record[5] == 1),
+        bits: bits(record[3] as usize, record[4] as usize, is_big(record[5])),
+        signed: record[5] >= 2,
         triggered: record[6] == 0,
         depth: record[7] as usize,
         filter: record[8],
@@ -146,6 +150,7 @@ pub fn pack(places: &[usize], value: u32, bytes: &mut [u8]) {
     }
 }
 
+/// The message bits from their places; the bits above them are 0.
 pub fn unpack(places: &[usize], bytes: &[u8]) -> u32 {
     let mut value = 0;
     for (i, k) in places.iter().enumerate() {
@@ -155,6 +160,21 @@ pub fn unpack(places: &[usize], bytes: &[u8]) -> u32 {
         }
     }
     value
+}
+
+/// The value of so many bits, with its top bit copied upwards.
+pub fn extended(value: u32, size: usize) -> u32 {
+    let top = value >> (size - 1) & 1;
+    (size..32).fold(value, |value, i| value | top << i)
+}
+
+/// The number that a value's 32 bits mean.
+pub fn meant(value: u32, signed: bool) -> i64 {
+    if signed {
+        value as i32 as i64
+    } else {
+        value as i64
+    }
 }
 
 /// Whether two send objects share a bit of an I-PDU.
@@ -168,9 +188,26 @@ pub fn overlap(objects: &[Object]) -> bool {
 // ---- Filters ----
 
 impl Object {
+    /// What is read of the object in the bytes of its I-PDU.
+    pub fn reading(&self, bytes: &[u8]) -> u32 {
+        let value = unpack(&self.bits, bytes);
+        if self.signed {
+            extended(value, self.bits.len())
+        } else {
+            value
+        }
+    }
+
     /// Whether the filter passes a value; changes nothing.
     pub fn judge(&self, new: u32) -> bool {
+        self.judge_as(new, self.signed)
+    }
+
+    /// As if the object were signed, or not: 8 to 13 compare the numbers that are meant.
+    pub fn judge_as(&self, new: u32, signed: bool) -> bool {
         let old = self.old;
+        let [new_meant, old_meant, min, max] =
+            [new, old, self.first, self.second].map(|value| meant(value, signed));
         match self.filter {
             0 => true,
             1 => false,
@@ -180,12 +217,12 @@ impl Object {
             5 => new != old,
             6 => new & self.first == old & self.first,
             7 => new & self.first != old & self.first,
-            8 => self.first <= new && new <= self.second,
-            9 => !(self.first <= new && new <= self.second),
-            10 => new > old,
-            11 => new <= old,
-            12 => new < old,
-            13 => new >= old,
+            8 => min <= new_meant && new_meant <= max,
+            9 => !(min <= new_meant && new_meant <= max),
+            10 => new_meant > old_meant,
+            11 => new_meant <= old_meant,
+            12 => new_meant < old_meant,
+            13 => new_meant >= old_meant,
             14 => self.occurrence as u32 % self.first == self.second,
             _ => unreachable!("the check has refused this filter"),
         }
@@ -205,5 +242,20 @@ impl Object {
             self.old = new;
         }
         passed
+    }
+}
+
+/// What not every test that has this module asks for.
+#[allow(dead_code)]
+impl Object {
+    /// The number that a value of this object means.
+    pub fn meant(&self, value: u32) -> i64 {
+        meant(value, self.signed)
+    }
+
+    /// Whether a signed object's bits hold the number that a value means.
+    pub fn fits(&self, value: u32) -> bool {
+        let half = 1 << (self.bits.len() - 1);
+        (-half..half).contains(&self.meant(value))
     }
 }

@@ -1,10 +1,10 @@
-//! The layer, written from document 01 alone and in its order: the calls, what comes back; the
+//! The layer, written from document 01 and in its order: the calls, what comes back; the
 //! table, bits and filters are in records.rs. The state is a plain struct; where a number stands
 //! in the lent working memory is no matter here. Of that memory a call is told its length and
 //! whether its stored numbers are in their ranges.
 
 use crate::call::Call;
-use crate::records::{ipdu_of, object_of, pack, two, unpack, Ipdu, Object};
+use crate::records::{ipdu_of, object_of, pack, two, Ipdu, Object};
 use crate::table::{place, Answer};
 
 #[derive(Clone)]
@@ -246,7 +246,7 @@ impl Layer {
         self.ipdus[k].bytes[..bytes.len()].copy_from_slice(bytes);
         for i in 0..self.objects.len() {
             if self.objects[i].ipdu == Some(k) {
-                let value = unpack(&self.objects[i].bits, &self.ipdus[k].bytes);
+                let value = self.objects[i].reading(&self.ipdus[k].bytes);
                 self.deliver(i, value);
             }
         }

@@ -1,5 +1,6 @@
 //! A script run over the reference: its lines read, the calls made in order from a stopped layer,
-//! a line printed for each. Written from request W-201 of document 02 and from document 01 alone.
+//! a line printed for each. Written from requests W-201 and W-207 of document 02 and from document
+//! 01 alone.
 
 use crate::call::Call;
 use crate::reference::Layer;
@@ -31,8 +32,8 @@ pub fn read(line: &[u8]) -> Option<Call> {
     let call = match fields[..] {
         [b"start"] => Call::Start,
         [b"stop"] => Call::Stop,
-        [b"send", o, v] => Call::Send { object: number(o)?, value: number(v)? },
-        [b"initialise", o, v] => Call::Initialise { object: number(o)?, value: number(v)? },
+        [b"send", o, v] => Call::Send { object: number(o)?, value: value(v)? },
+        [b"initialise", o, v] => Call::Initialise { object: number(o)?, value: value(v)? },
         [b"receive", o] => Call::Receive { object: number(o)? },
         [b"status", o] => Call::Status { object: number(o)? },
         [b"marks", o] => Call::Marks { object: number(o)? },
@@ -65,6 +66,16 @@ fn number(field: &[u8]) -> Option<u32> {
     Some(number)
 }
 
+/// The value of a send or an initialise, of any object: a number, or one with a minus, from -1 down
+/// to -2,147,483,648, which means its 32 bits.
+fn value(field: &[u8]) -> Option<u32> {
+    let Some(digits) = field.strip_prefix(b"-") else {
+        return number(field);
+    };
+    let below = number(digits)?;
+    (1..=1 << 31).contains(&below).then_some(below.wrapping_neg())
+}
+
 fn good(field: &[u8]) -> Option<bool> {
     match field {
         b"1" => Some(true),
@@ -90,13 +101,12 @@ pub fn answered(layer: &mut Layer, call: &Call) -> String {
     let mut area = [0xA5; 256];
     let answer = layer.call(call, 8192, true, &mut area);
     let mut line = answer.number.to_string();
-    let gives_value = match call {
-        Call::Receive { .. } => answer.number == 0 || answer.number == 3,
-        Call::Marks { .. } => answer.number == 0,
-        _ => false,
-    };
-    if gives_value {
-        line += &format!(" val {}", answer.value);
+    match (call, answer.number) {
+        (Call::Receive { object }, 0 | 3) => {
+            line += &format!(" val {}", layer.objects[*object as usize].meant(answer.value));
+        }
+        (Call::Marks { .. }, 0) => line += &format!(" val {}", answer.value),
+        _ => {}
     }
     if let (0, Call::Send { .. } | Call::Tick) = (answer.number, call) {
         for (k, p) in layer.ipdus.iter().enumerate() {

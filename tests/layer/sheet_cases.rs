@@ -88,6 +88,7 @@ pub fn run() {
     errors();
     ends();
     refusals();
+    signed();
     longest();
 }
 
@@ -192,19 +193,54 @@ fn refusals() {
     assert_eq!(case.begin_lent(SHEET - 1, &[0]), 6);
 }
 
-/// Sixteen lines of numbers with three and ten digits, 16 · 81 bytes.
+/// The same values in the queue of a signed object, 1, and of one that is not, 2; in object 3 those
+/// of a byte that arrives.
+fn signed() {
+    let queue = [2, 255, 0, 0, 32, 2, 0, 8];
+    let objects = [
+        object(&[1, 255, 255, 0, 32]),
+        object(&queue),
+        object(&[&queue[..5], &[0, 0, 8]].concat()),
+        object(&[2, 0, 255, 0, 8, 3, 0, 8]),
+    ];
+    let mut case = Case::started_with(&[ipdu(2, 1, 0, [0; 5])], &objects);
+    assert_eq!(case.begin(&[2, 3, 1]), 0);
+    let send = |case: &mut Case, values: &[i32]| {
+        for value in values {
+            assert_eq!(case.ask(Call::Send { object: 0, value: *value as u32 }), (0, 0));
+        }
+    };
+    send(&mut case, &[-5, -7]);
+    case.arrive(&[0x80, 0xFF]);
+    let plain = "2 2 4294967291 4294967289 4294967289 4294967291 0 0\n";
+    let both = "3 2 -128 -1 -128 -1 0 0\n1 2 -5 -7 -7 -5 0 0\n";
+    assert_eq!(case.drain(), format!("{plain}{both}"));
+    send(&mut case, &[3, i32::MAX, i32::MIN, 0]);
+    case.arrive(&[0x7F, 0x00]);
+    let plain = "2 6 4294967291 0 0 4294967291 0 0\n";
+    let both = "3 4 -128 0 -128 127 0 0\n1 6 -5 0 -2147483648 2147483647 0 0\n";
+    assert_eq!(case.drain(), format!("{plain}{both}"));
+    assert_eq!(case.drain(), format!("{plain}{both}"));
+}
+
+/// Sixteen lines of numbers with three and ten digits, 16 · 81 bytes; with a minus in front of four
+/// of them 16 · 85.
 fn longest() {
-    let queue = object(&[2, 255, 255, 0, 32, 0, 0, 4]);
-    let mut case = Case::started_with(&[], &[queue; 128]);
-    let objects: Vec<u32> = (112..128).rev().collect();
-    assert_eq!(case.begin(&objects), 0);
-    for at in (8..SHEET).step_by(4).filter(|at| at % 32 != 8) {
-        case.write(at, MOST_VALUE);
-    }
-    let lines = case.drain();
-    let number = "4294967295";
-    assert_eq!(lines.len(), 16 * 81);
-    for (line, object) in lines.lines().zip(objects) {
-        assert_eq!(line, format!("{object} {}", [number; 7].join(" ")));
+    for (order, value, printed) in [(0, MOST_VALUE, "4294967295"), (2, 1 << 31, "-2147483648")] {
+        let queue = object(&[2, 255, 255, 0, 32, order, 0, 4]);
+        let mut case = Case::started_with(&[], &[queue; 128]);
+        let objects: Vec<u32> = (112..128).rev().collect();
+        assert_eq!(case.begin(&objects), 0);
+        for row in (8..SHEET).step_by(32) {
+            [4, 24, 28].into_iter().for_each(|at| case.write(row + at, MOST_VALUE));
+            [8, 12, 16, 20].into_iter().for_each(|at| case.write(row + at, value));
+        }
+        let lines = case.drain();
+        let count = "4294967295";
+        assert_eq!(lines.len(), 16 * (81 + 2 * order as usize));
+        for (line, object) in lines.lines().zip(objects) {
+            let values = [printed; 4].join(" ");
+            assert_eq!(line, format!("{object} {count} {values} {count} {count}"));
+        }
     }
 }
