@@ -16,6 +16,13 @@
  * one. Nothing is kept between calls but in the lent memory and sheet, and no pointer is kept at
  * all: table, memory and sheet may move, if their bytes move with them.
  *
+ * Values. A value is a word of 32 bits. A message object is unsigned or, where its byte order in
+ * the table is 2 or 3, signed: then its values are numbers in two's complement, which
+ * birnenschloss_signed gives. An indication fills the bits above an unsigned reading with 0, above
+ * a signed one with its top bit; filters 8 to 13 of a signed object compare as signed, constants
+ * and old value too; a sheet orders and prints its values as signed. Only packing cuts a value to
+ * the object's bits: what was sent inside, initialised or is the initial value is received whole.
+ *
  * Threads. There is no global state: calls over different memories may run at once. Two calls over
  * one memory must not, nor over one area: let a lock or an interrupt mask see to it.
  *
@@ -99,11 +106,19 @@ typedef struct birnenschloss_answer {
     uint32_t value;
 } birnenschloss_answer;
 
-/* A pair of a group: the number of a send object, and the value to send. */
+/* A pair of a group: the number of a send object, and the value to send. In the braces of C++ a
+ * negative number needs (uint32_t) before it. */
 typedef struct birnenschloss_pair {
     uint32_t object;
     uint32_t value;
 } birnenschloss_pair;
+
+/* The signed reading of a value, for an object whose byte order in the table is 2 or 3. No function
+ * is needed the other way: an int32_t passed as a value converts by itself to its 32 bits. */
+static inline int32_t birnenschloss_signed(uint32_t value)
+{
+    return value <= INT32_MAX ? (int32_t)value : -1 - (int32_t)(UINT32_MAX - value);
+}
 
 /* Whether the word of a send, group or tick names the I-PDU: its frame then stands in its slot. */
 static inline int birnenschloss_is_requested(uint32_t word, uint32_t ipdu)
@@ -256,8 +271,9 @@ birnenschloss_answer birnenschloss_sheet_begin(const uint8_t *table, size_t tabl
 /* Drains the objects of a sheet in the order given: receives each until a receive answers 4, then
  * reads its marks and clears them where they hold receive error. Then writes a line for each at the
  * front of the text: number, drained, first, last, least, greatest, overflows, errors; the four
- * values are - where nothing was drained. The text ends with no 0. Answers 0 with how many bytes
- * were written; 1, 5, 6 (the sheet or the text too), 7, 10, and then nothing is drained. */
+ * values are - where nothing was drained, and signed where the object is. The text ends with no 0.
+ * Answers 0 with how many bytes were written; 1, 5, 6 (the sheet or the text too), 7, 10, and then
+ * nothing is drained. */
 birnenschloss_answer birnenschloss_sheet_drain(const uint8_t *table, size_t table_length,
                                                uint8_t *memory, size_t memory_length,
                                                uint8_t *sheet, size_t sheet_length,

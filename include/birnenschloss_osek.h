@@ -12,8 +12,12 @@
  *
  * Where this differs from the standard, for one who recompiles code:
  *
- *   values        A message is an unsigned number of 1 to 32 bits, and every DataRef points to a
- *                 uint32_t, whatever the message's size. The compiler reports other pointers.
+ *   values        A message is a number of 1 to 32 bits, and every DataRef points to a uint32_t,
+ *                 whatever the message's size. The compiler reports other pointers.
+ *   signed        A message is signed where its byte order in the table is 2 or 3; the standard
+ *                 converts and filters unsigned ones alone. A DataRef then points to an int32_t,
+ *                 with a cast: (ApplicationDataRef)&degrees; or to a uint32_t, of which
+ *                 birnenschloss_signed gives the number. Filters 8 to 13 compare as signed.
  *   status        Errors are checked as under Extended, always. E_COM_ID is 1, E_COM_LENGTH 2,
  *                 E_COM_LIMIT 3, E_COM_NOMSG 4; an operating system may have codes of its own with
  *                 these numbers, so compare a status of COM with COM's names alone. What the

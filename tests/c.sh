@@ -30,7 +30,7 @@ for language in c99 cxx; do
         diff "examples/$name.stdout" "$out/stdout" || { echo "c.sh: $example printed otherwise, $language" >&2; exit 1; }
     done
     said=
-    for test in boundary groups sheets sheets_refused counts places osek; do
+    for test in boundary groups sheets sheets_refused counts places signed signed_filters osek; do
         sources=(tests/c/$test.c)
         [ $test = osek ] && sources+=(tests/c/controller.c)
         "$language" "${sources[@]}" -x none "$archive" -o "$out/$test"

@@ -4,8 +4,8 @@
 #include "controller.h"
 
 static const uint8_t table[] = {
-    /* 3 I-PDUs, 5 message objects, records at 16 and 64, 224 bytes */
-    3, 0, 5, 0, 16, 0, 64, 0, 224, 0, 0, 0, 0, 0, 0, 0,
+    /* 3 I-PDUs, 7 message objects, records at 16 and 64, 288 bytes */
+    3, 0, 7, 0, 16, 0, 64, 0, 32, 1, 0, 0, 0, 0, 0, 0,
     /* out: sent, 3 bytes, direct, no minimum delay, deadline 5 */
     1, 3, 0, 0, 0, 0, 0, 0, 0, 0, 5, 0, 0, 0, 0, 0,
     /* in: received, 2 bytes, no deadline */
@@ -26,6 +26,12 @@ static const uint8_t table[] = {
     0, 0, 0, 0, 0, 0, 0, 0, 0, 0, 0, 0, 0, 0, 0, 0,
     /* state: sent in cyclic, bit 56, 8 bits, little, pending, initial value 17 */
     1, 2, 255, 56, 8, 0, 1, 0, 0, 0, 0, 0, 17, 0, 0, 0,
+    0, 0, 0, 0, 0, 0, 0, 0, 0, 0, 0, 0, 0, 0, 0, 0,
+    /* degrees: received in in, bit 0, 8 bits, signed big, unqueued */
+    2, 1, 255, 0, 8, 3, 0, 0, 0, 0, 0, 0, 0, 0, 0, 0,
+    0, 0, 0, 0, 0, 0, 0, 0, 0, 0, 0, 0, 0, 0, 0, 0,
+    /* wanted: sent in out, bit 16, 8 bits, signed little, pending */
+    1, 0, 255, 16, 8, 2, 1, 0, 0, 0, 0, 0, 0, 0, 0, 0,
     0, 0, 0, 0, 0, 0, 0, 0, 0, 0, 0, 0, 0, 0, 0, 0,
 };
 

@@ -5,8 +5,8 @@
 #include <stddef.h>
 #include <stdint.h>
 
-enum { OUT, IN, CYCLIC, NO_IPDU };                   /* I-PDUs */
-enum { SPEED, ECHO, COMMANDS, LAST, STATE, NO_MESSAGE }; /* messages */
+enum { OUT, IN, CYCLIC, NO_IPDU };                                        /* I-PDUs */
+enum { SPEED, ECHO, COMMANDS, LAST, STATE, DEGREES, WANTED, NO_MESSAGE }; /* messages */
 
 struct transmitted {
     unsigned count;

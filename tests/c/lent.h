@@ -1,5 +1,5 @@
-/* What boundary.c, counts.c and places.c lend; each defines TABLE_SIZE, the length of its table,
- * first. */
+/* What boundary.c, counts.c, places.c and signed.h lend; each defines TABLE_SIZE, the length of its
+ * table, first. */
 #ifndef LENT_H
 #define LENT_H
 

@@ -154,6 +154,22 @@ static void receiving(void)
     REQUIRE(flags_are(LAST, RECEIVE_ERROR));
 }
 
+/* A DataRef to an int32_t, with a cast, and one to a uint32_t. */
+static void signed_messages(void)
+{
+    uint8_t bytes[2] = {0xFB, 0};
+    int32_t degrees = 12345;
+    REQUIRE(birnenschloss_osek_indication(IN, bytes, 2) == E_OK);
+    REQUIRE(ReceiveMessage(DEGREES, (ApplicationDataRef)&degrees) == E_OK && degrees == -5);
+    REQUIRE(receives(DEGREES, E_OK, 4294967291u) && birnenschloss_signed(4294967291u) == -5);
+    REQUIRE(SendMessage(WANTED, (ApplicationDataRef)&degrees) == E_OK && transmitted.count == 0);
+    REQUIRE(send(SPEED, 8) == E_OK && went_out(OUT, "\x08\0\xFB", 3));
+    REQUIRE(birnenschloss_osek_confirm(OUT, 1) == E_OK && flags_are(WANTED, SENT));
+    degrees = -300; /* not cut: no I-PDU lies between */
+    REQUIRE(InitMessage(DEGREES, (ApplicationDataRef)&degrees) == E_OK);
+    REQUIRE(receives(DEGREES, E_OK, 4294966996u));
+}
+
 static void identifiers(void)
 {
     uint32_t value = 1;
@@ -180,6 +196,7 @@ int main(void)
     period();
     sending();
     receiving();
+    signed_messages();
     identifiers();
     stop();
     printf("osek.c: %u statements hold\n", checked);

@@ -97,7 +97,8 @@ impl core::error::Error for Error {}
 /// What a receive gives.
 #[derive(Clone, Copy, Debug, PartialEq, Eq, Hash)]
 pub struct Received {
-    /// The value, or the oldest one of a queue.
+    /// The value, or the oldest one of a queue; [`signed`](crate::signed) reads that of a signed
+    /// object.
     pub value: u32,
     /// A full queue has lost a value since the last receive (number 3, E_COM_LIMIT).
     pub overflowed: bool,

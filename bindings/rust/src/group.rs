@@ -12,7 +12,7 @@ pub const MOST_PAIRS: usize = 16;
 pub struct Pair {
     /// The send object; any other number is answered by [`PairStatus::Id`].
     pub object: ObjectNumber,
-    /// The value.
+    /// The value; of a signed object a cast gives it, as in `-186_i32 as u32`.
     pub value: u32,
 }
 

@@ -87,9 +87,9 @@ impl<'t, 'm> Layer<'t, 'm> {
         answers::done(linked::stop(t, m))
     }
 
-    /// Sends a value: delivers it to the receivers inside, and if the filter passes it, packs it
-    /// into its I-PDU. A triggered object then requests its I-PDU, unless that is periodic, now
-    /// or when it may go. A dropped value is no error.
+    /// Sends a value: delivers it whole to the receivers inside, and if the filter passes it, packs
+    /// its low bits into its I-PDU. A triggered object then requests its I-PDU, unless that is
+    /// periodic, now or when it may go. A dropped value is no error.
     pub fn send(
         &mut self,
         area: &mut Area,
@@ -157,8 +157,8 @@ impl<'t, 'm> Layer<'t, 'm> {
         Ok(requests)
     }
 
-    /// Sets the value of an object, with no filter and no request. A queue is emptied, and its
-    /// overflow cleared.
+    /// Sets the value of an object, with no filter and no request: whole in a receive object, the
+    /// low bits in the I-PDU of a send object. A queue is emptied, and its overflow cleared.
     pub fn initialise(&mut self, object: ObjectNumber, value: u32) -> Result<(), Error> {
         let (t, m) = self.lent();
         answers::done(linked::initialise(t, m, object.0, value))
@@ -199,8 +199,9 @@ impl<'t, 'm> Layer<'t, 'm> {
         answers::done(linked::stop_periodic(t, m))
     }
 
-    /// An I-PDU has arrived: its bytes go to its objects and its receive timer begins anew. Not
-    /// good, its objects are marked with a receive error and the bytes are not looked at.
+    /// An I-PDU has arrived: its bytes go to its objects and its receive timer begins anew. Above
+    /// the bits of an object its value has 0, of a signed one their top bit. Not good, its objects
+    /// are marked with a receive error and the bytes are not looked at.
     pub fn indication(
         &mut self,
         ipdu: IpduNumber,
@@ -241,7 +242,7 @@ impl<'t, 'm> Layer<'t, 'm> {
     /// then reads its marks, and clears them where they hold a receive error. Gives the lines of
     /// the sheet, one for each object: its number, how many values were drained since the sheet was
     /// begun, the first, last, least and greatest, overflows, errors. Where nothing was drained the
-    /// four values are `-`.
+    /// four values are `-`; those of a signed object are printed as signed.
     ///
     /// A sheet that was begun over this table is no reason to refuse. Over another table:
     /// [`Error::Id`] where one of the objects is not a queued receive object there.

@@ -30,6 +30,9 @@
 //! # Ok::<(), birnenschloss::Error>(())
 //! ```
 //!
+//! A value is a word of 32 bits. Of a message object whose byte order in the table is 2 or 3 it is a
+//! number in two's complement, which [`signed`] gives.
+//!
 //! [`send_group`](Controller::send_group) sends up to [`MOST_PAIRS`] values by one call. A [`Sheet`]
 //! follows queues through a journey: [`drain_sheet`](Controller::drain_sheet) empties them and says
 //! what came.
@@ -76,6 +79,7 @@ mod linked;
 mod numbers;
 mod sheet;
 mod table;
+mod values;
 
 pub use answers::{Error, Marks, Received, Status};
 pub use controller::{Controller, Started, Unstarted};
@@ -85,3 +89,4 @@ pub use lent::{Area, Frames, IpduNumbers, Memory, Requests, AREA_SIZE, MEMORY_SI
 pub use numbers::{IpduNumber, ObjectNumber};
 pub use sheet::{Sheet, SheetText};
 pub use table::{Table, WrongRecord};
+pub use values::signed;

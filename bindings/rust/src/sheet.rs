@@ -4,7 +4,7 @@ use core::str;
 
 /// What a journey sheet keeps: up to sixteen queued receive objects, and of each how many values were
 /// drained, the first, last, least and greatest of them, how often its queue had overflowed, and in
-/// how many drains it had a receive error.
+/// how many drains it had a receive error. Values of a signed object are ordered as signed.
 ///
 /// [`begin_sheet`](crate::Layer::begin_sheet) makes one, and
 /// [`drain_sheet`](crate::Layer::drain_sheet) goes on with it. It is the 520 bytes of docs/SHEET.md,

@@ -81,8 +81,8 @@ pub enum WrongRecord {
     Header,
     /// The record of the I-PDU with this number.
     Ipdu(u8),
-    /// The record of the message object with this number: wrong by itself, on a bit of a lower
-    /// send object, or with a queue that carries the sum of the depths past 512.
+    /// The record of the message object with this number: wrong by itself, or with a queue that
+    /// carries the sum of the depths past 512.
     Object(u8),
 }
 
