@@ -18,8 +18,8 @@ ARCHIVE = os.path.join(TOP, "target", "staticlib", "libexports.a")
 HEADS = {
     "I-PDU": ["send, length 4, direct", "send, length 2, direct", "send, length 8, periodic", "receive, length 4", "receive, length 1",
               "send, length 1, mixed"],
-    "object": ["send, I-PDU 0", "send, I-PDU 1", "send, I-PDU 2", "receive, I-PDU 3, unqueued", "receive, I-PDU 3, depth 3",
-               "receive, I-PDU 3, depth 2", "receive, from object 2, depth 16", "receive, I-PDU 4, depth 1"],
+    "object": ["send, I-PDU 0", "send, I-PDU 1", "send, I-PDU 2", "receive, I-PDU 3, unqueued, signed", "receive, I-PDU 3, depth 3",
+               "receive, I-PDU 3, depth 2, signed", "receive, from object 2, depth 16", "receive, I-PDU 4, depth 1"],
 }
 # What gdb is asked that it can't answer, and the line that it has to print.
 REFUSED = [
@@ -213,6 +213,7 @@ def check_objects(layout, asked, rows):
         same(f"count of object {i}", int(row["count"]), len(values))
         same(f"status of object {i}", status, 3 if row["value_lost"] == "1" else 0 if row["queue"] else 4)
     same("marks that occur", seen, set(layout.marks))
+    same("values below zero", [rows["object", 3]["old_value"], rows["object", 5]["queue"]], ["-24", ["-225", "-224"]])
     same("objects that lost a value", [i for i in range(8) if rows["object", i]["value_lost"] == "1"], [5])
 
 

@@ -13,6 +13,8 @@ MODES = {0: "direct", 1: "periodic", 2: "mixed"}
 MOST_DEPTH, MOST_DEPTHS = 16, 512
 ONE_EVERY_N = 14  # the filter that counts
 NONE = 255
+FIRST_SIGNED = 2  # of the byte orders
+VALUES = ("value", "old_value")  # the numbers of an object's row that are values of it
 PLACES_IN_LINE = 8
 
 
@@ -126,8 +128,9 @@ class Table:
         depth = one_of({n: n for n in range(MOST_DEPTH + 1)}, data[at + 7], f"the depth of object {i}")
         greatest_count = max(number(data, at + 16, 4) - 1, 0) if data[at + 8] == ONE_EVERY_N else 0
         of = f"I-PDU {ipdu}" if ipdu != NONE else f"from object {sender}" if sender != NONE else "no I-PDU"
-        words = f"{kind}, {of}" + (f", depth {depth}" if depth else ", unqueued" if kind == "receive" else "")
-        return {"words": words, "depth": depth, "first": first, "greatest_count": greatest_count}
+        signed = data[at + 5] >= FIRST_SIGNED
+        words = f"{kind}, {of}" + (f", depth {depth}" if depth else ", unqueued" if kind == "receive" else "") + (", signed" if signed else "")
+        return {"words": words, "depth": depth, "first": first, "greatest_count": greatest_count, "signed": signed}
 
 
 def shown(name, value, least, most):
@@ -135,6 +138,11 @@ def shown(name, value, least, most):
         return f"{name} {value}"
     allowed = str(least) if least == most else f"{least}..{most}"
     return f"{name} {value} OUT OF RANGE ({allowed})"
+
+
+def meant(signed, value):
+    """What 32 bits mean, of an object that is signed or not."""
+    return value - 2**32 if signed and value >= 2**31 else value
 
 
 class View:
@@ -182,7 +190,8 @@ class View:
         """The values of a queue, the oldest first."""
         row, depth = self.layout.row(self.memory, "object", i), self.table.objects[i]["depth"]
         places = [row["queue_begins"] + (row["oldest_place"] + n) % depth for n in range(row["count"])]
-        return [self.layout.row(self.memory, "queue_places", place)["queued_value"] for place in places]
+        values = [self.layout.row(self.memory, "queue_places", place)["queued_value"] for place in places]
+        return [meant(self.table.objects[i]["signed"], value) for value in values]
 
     def frame(self, k, length):
         return " ".join(f"{byte:02X}" for byte in self.layout.slice(self.memory, "bytes", k)[:length])
@@ -207,7 +216,9 @@ class View:
         for name, value, least, most in self.ranges("object", i):
             wrong = not least <= value <= most
             bad |= wrong
-            if value or most:
+            if name in VALUES:
+                parts.append(f"{name} {meant(record['signed'], value)}")
+            elif value or most:
                 parts.append(self.marks(value) if name == "marks" and not wrong else shown(name, value, least, most))
         if record["depth"]:
             values = " ".join(map(str, self.queue(i))) if not bad else "not shown, a number is out of range"

@@ -36,14 +36,14 @@ const uint8_t table[TABLE_SIZE] = {
     /* wide: sent in periodic, bit 24, 32 bits, big, initial value hex 04030201 */
     1, 2, 255, 24, 32, 1, 0, 0, 0, 0, 0, 0, 1, 2, 3, 4,
     0, 0, 0, 0, 0, 0, 0, 0, 0, 0, 0, 0, 0, 0, 0, 0,
-    /* last: received in incoming, bit 8, 8 bits, unqueued, filter 14 with period 3, offset 0 */
-    2, 3, 255, 8, 8, 0, 0, 0, 14, 0, 0, 0, 90, 0, 0, 0,
+    /* last: received in incoming, bit 8, 8 bits, signed, unqueued, filter 14 with period 3, offset 0 */
+    2, 3, 255, 8, 8, 2, 0, 0, 14, 0, 0, 0, 90, 0, 0, 0,
     3, 0, 0, 0, 0, 0, 0, 0, 0, 0, 0, 0, 0, 0, 0, 0,
     /* queue: received in incoming, bit 0, 8 bits, depth 3 */
     2, 3, 255, 0, 8, 0, 0, 3, 0, 0, 0, 0, 0, 0, 0, 0,
     0, 0, 0, 0, 0, 0, 0, 0, 0, 0, 0, 0, 0, 0, 0, 0,
-    /* full: received in incoming, bit 16, 16 bits, depth 2 */
-    2, 3, 255, 16, 16, 0, 0, 2, 0, 0, 0, 0, 0, 0, 0, 0,
+    /* full: received in incoming, bit 16, 16 bits, signed, depth 2 */
+    2, 3, 255, 16, 16, 2, 0, 2, 0, 0, 0, 0, 0, 0, 0, 0,
     0, 0, 0, 0, 0, 0, 0, 0, 0, 0, 0, 0, 0, 0, 0, 0,
     /* inside: receives what wide sends, depth 16 */
     2, 255, 2, 0, 32, 0, 0, 16, 0, 0, 0, 0, 0, 0, 0, 0,
@@ -80,7 +80,7 @@ static void must(birnenschloss_answer got, uint32_t number, const char *what)
 
 static void indicate(uint8_t first, uint8_t second, uint8_t third)
 {
-    const uint8_t bytes[4] = {first, second, third, 1};
+    const uint8_t bytes[4] = {first, second, third, 255};
     must(birnenschloss_indication(LENT, INCOMING, 1, bytes, sizeof bytes), E_OK, "an indication");
 }
 
@@ -130,6 +130,14 @@ static void ask_open(uint32_t ipdu)
     printf("ask request_open %u %d\n", (unsigned)ipdu, got.number == E_OK);
 }
 
+static void print_value(uint32_t object, uint32_t value)
+{
+    if (table[16 + 16 * IPDUS + 32 * object + 5] < 2)
+        printf(" %lu", (unsigned long)value);
+    else
+        printf(" %ld", (long)birnenschloss_signed(value));
+}
+
 static void ask_object(uint32_t i)
 {
     birnenschloss_answer got;
@@ -143,10 +151,10 @@ static void ask_object(uint32_t i)
         return; /* a send object */
     printf("ask receive %u", (unsigned)i);
     if (answers.status[i].number == E_COM_ID)
-        printf(" %u", (unsigned)got.value); /* unqueued: it has no end */
+        print_value(i, got.value); /* unqueued: it has no end */
     else
         for (; got.number != E_COM_NOMSG; got = birnenschloss_receive(COPY, i))
-            printf(" %u", (unsigned)got.value);
+            print_value(i, got.value);
     printf("\n");
 }
 
@@ -193,12 +201,12 @@ static void run(void)
     for (n = 0; n < 4; n++)
         must(birnenschloss_tick(LENT, area, sizeof area), E_OK, "tick");
     /* incoming: a queue that goes round, one that overflows */
-    indicate(11, 21, 31);
-    indicate(12, 22, 32);
+    indicate(11, 235, 31);
+    indicate(12, 234, 32);
     must(birnenschloss_receive(LENT, QUEUE), E_OK, "receive");
     must(birnenschloss_receive(LENT, QUEUE), E_OK, "receive");
-    indicate(13, 23, 33);
-    indicate(14, 24, 34);
+    indicate(13, 233, 33);
+    indicate(14, 232, 34);
     must(birnenschloss_indication(LENT, INCOMING, 0, area, 0), E_OK, "a bad indication");
     /* inside: three values that wide sends */
     for (n = 1; n <= 3; n++)
