@@ -2,7 +2,7 @@
 -- Assumes nothing.
 use mathlib.Core.Bool.{false}
 use mathlib.Core.List.{List, [], _∷_}
-use mathlib.Core.Path.{_≡_, refl, _∙_}
+use mathlib.Core.Path.{_≡_, refl, ap, _∙_}
 use Prim.Native.Nat.{ℕ, zero, suc, _^_, _<_}
 use native.Mathlib.Omega.{arith}
 use lib.ListN.{getD, replicate}
@@ -10,13 +10,14 @@ use Rattle.memory.specs.Bytes.{Bytes, bytesOf}
 use Rattle.memory.specs.Integers.{integer, lessThan}
 use Rattle.memory.proofs.Tests.{tested}
 use Rattle.state.specs.Layout.{memorySize}
+use Rattle.layer.specs.declared.Reply.{Reply}
 use Rattle.layer.specs.Step.{start, step}
 use Rattle.layer.specs.Promises.{reply, readsSigned}
 use Rattle.layer.proofs.StepBytes.{start-bytes}
 use Rattle.sheet.specs.Layout.{sheetSize, rowAt}
 use Rattle.sheet.specs.Numbers.{row, workedOut}
 use Rattle.sheet.specs.Sheets.{begin}
-use Rattle.sheet.specs.Journeys.{Event, made, drained, EventsTyped, drainsIn, sheetAfter, repliesTo, marksOf}
+use Rattle.sheet.specs.Journeys.{DrainLent, Event, made, drained, EventsTyped, drainsIn, sheetAfter, repliesTo, marksOf}
 use Rattle.sheet.specs.Lines.{textSize}
 use Rattle.sheet.proofs.Journeys.{journey-numbers}
 use Rattle.cases.proofs.Definitions.{definitions}
@@ -68,10 +69,17 @@ begins = refl
 abbrev sheet : List ℕ
 sheet = begin twoCases m s is .sheet
 
+-- what the object given as number 1 got, both from one list of drains, which is computed once
+abbrev gotIn : List DrainLent → List Reply × List ℕ
+gotIn ds = (repliesTo ds sheet 1, marksOf ds sheet 1)
+
+got-pin : gotIn (drainsIn twoCases events m sheet) ≡ (reply 3 7 ∷ reply 0 8 ∷ [], 1 ∷ 5 ∷ [])
+unfolding definitions sheetDefinitions drainDefinitions
+got-pin = refl
+
 -- what object 0 got, which was given as number 1: two values, the first with an overflow; its marks, at the second drain with receive error
 pub replies-pin : (repliesTo (drainsIn twoCases events m sheet) sheet 1 ≡ reply 3 7 ∷ reply 0 8 ∷ []) × (marksOf (drainsIn twoCases events m sheet) sheet 1 ≡ 1 ∷ 5 ∷ [])
-unfolding definitions sheetDefinitions drainDefinitions
-replies-pin = (refl, refl)
+replies-pin = (ap (λ (x : List Reply × List ℕ). x .0) got-pin, ap (λ (x : List Reply × List ℕ). x .1) got-pin)
 
 -- it is not signed
 plain : readsSigned twoCases 0 ≡ false
