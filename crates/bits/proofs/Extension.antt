@@ -1,20 +1,20 @@
 -- Laws of signed messages (W-207): what the extension of a message comes to, that it fits 32 bits, and when a stored value is read back.
 -- Assumes nothing.
-use mathlib.Core.Bool.{Bool, true, false, not, _||_}
+use mathlib.Core.Bool.{Bool, true, false}
 use mathlib.Core.List.{List}
 use mathlib.Core.Logic.{⊎-elim}
 use mathlib.Core.Path.{_≡_, refl, sym, ap, _∙_}
 use Prim.Native.Nat.{ℕ, zero, suc, _+_, _-_, _*_, _/_, _%_, _^_, _≤_, _<_, zero-le}
-use native.Mathlib.Nat.{pow-succ', mod-lt, mod-eq-of-lt, add-mul-mod-self-left, lt-of-lt-of-le, mul-comm}
+use native.Mathlib.Nat.{pow-succ', mod-lt, mod-eq-of-lt, add-mul-mod-self-left, lt-of-lt-of-le, mul-comm, add-zero}
 use native.Mathlib.Omega.{arith}
-use borrow.Author.Tests.{eqb-true, ltb-true, ltb-false, lt-ltb, le-ltb, le-leb, lt-leb, eq-eqb, ne-eqb}
+use borrow.Author.Tests.{eqb-true, lt-ltb, le-ltb, le-leb, lt-leb, eq-eqb, ne-eqb}
 use lib.Dec.{leb, ltb, eqb, leb·suc-suc}
 use lib.IntN.{pos, negsuc, negℤ}
 use lib.ListN.{length}
 use lib.Pow.{pow-pos, pow-mono, high-ones}
 use lib.Signed.{leZ}
 use Rattle.memory.specs.Search.{pick}
-use Rattle.memory.proofs.Tests.{lt-or-le, true-not-false}
+use Rattle.memory.proofs.Tests.{lt-or-le}
 use Rattle.memory.proofs.IntegerLaws.{integer-low, integer-high}
 use Rattle.bits.specs.declared.Order.{Order}
 use Rattle.bits.specs.Bits.{bit, number, packed, unpacked, extended, readBack, fitsBits}
@@ -88,14 +88,25 @@ module _ (size v : ℕ) (some : 1 ≤ size) (most : size ≤ 32) (fits : v < 2 ^
       (lt-or-le v (2 ^ (size - 1)))
   extended-lt false = unfold extended in lt-of-lt-of-le fits (pow-mono most)
 
-  -- as the code tests it: p and q are the powers that it worked out
-  pub kept-as-is : (signed : Bool) {p : ℕ} → p ≡ 2 ^ (size - 1) → (not signed || ltb v p) ≡ true → v ≡ extended signed size v
-  kept-as-is false e t = unfold extended in refl
-  kept-as-is true {p} e t = sym (extended-low (omega (arith, e, ltb-true v p t)))
-
-  pub filled-with-ones : (signed : Bool) {p q : ℕ} → p ≡ 2 ^ (size - 1) → (not signed || ltb v p) ≡ false → q ≡ 2 ^ size → v + (2 ^ 32 - q) ≡ extended signed size v
-  filled-with-ones false {p} {q} e t all = let z : true ≡ false = t in absurd (true-not-false refl z)
-  filled-with-ones true {p} {q} e t all = rw all (sym (extended-high (omega (arith, e, ltb-false v p t))))
+  -- as the code has it: the top bit is added within the field's bits, and taken off again
+  pub turned-over : (signed : Bool) {top q r : ℕ} → top ≡ pick signed (2 ^ (size - 1)) 0 → q ≡ 2 ^ size → r < 2 ^ 32
+      → (r + top) % 2 ^ 32 ≡ (v + top) % q → r ≡ extended signed size v
+  turned-over false {top} {q} {r} none all low e =
+      unfold extended in
+      let same : (v + top) % q ≡ v = rw (none, all) (ap (λ (n : ℕ). n % 2 ^ size) (add-zero v) ∙ mod-eq-of-lt fits) in
+      omega (arith, none, low, e, same)
+  turned-over true {top} {q} {r} half all low e =
+      let two = halves size some in
+      let most : top ≤ 2 ^ 31 = rw half (pow-mono {j = 31} (omega arith)) in
+      ⊎-elim
+      (λ (h : v < 2 ^ (size - 1)).
+      let sum : (v + top) % q ≡ v + top = rw all (mod-eq-of-lt (omega (arith, h, half, two))) in
+      omega (arith, low, e, sum, most, fits) ∙ sym (extended-low h))
+      (λ (h : 2 ^ (size - 1) ≤ v).
+      let over : v + top ≡ v - top + 2 ^ size * 1 = omega (arith, h, half, two) in
+      let rest : (v + top) % q ≡ v - top = rw (all, over) (add-mul-mod-self-left (v - top) (2 ^ size) 1 ∙ mod-eq-of-lt (omega (arith, fits))) in
+      omega (arith, h, half, two, low, e, rest, most, fits) ∙ sym (extended-high h))
+      (lt-or-le v (2 ^ (size - 1)))
 
 -- below its size a message keeps its bits
 pub extended-bit : (signed : Bool) (size v i : ℕ) → i < size → size ≤ 32 → bit (extended signed size v) i ≡ bit v i

@@ -1,7 +1,8 @@
 // A slot's 64-bit word, and fields of bits in it.
 use super::Order;
 ghost use mathlib.Core.Path.{_≡_};
-ghost use Prim.Native.Nat.{_+_, _≤_, _<_, _^_};
+ghost use Prim.Native.Nat.{_+_, _-_, _≤_, _<_, _^_};
+ghost use Rattle.memory.specs.Search.{pick};
 ghost use Rattle.bits.specs.Bits.{extended};
 ghost use Rattle.bits.specs.Slots.{bytesReversed, turned, withBitField, bitField};
 
@@ -51,16 +52,23 @@ pub(crate) fn field(word: u64, at: u32, bits: u32) -> u32
     (word / power_of_two(at) % power_of_two(bits)) as u32
 }
 
-// A field of `bits` bits as a value of 32: a signed one has its top bit copied upwards.
+// A field of `bits` bits as a value of 32: a signed one has its top bit copied upwards. The top bit is turned over by a sum
+// that stays within the field and taken off again; where it was set, a borrow runs up from it.
 pub(crate) fn extended(signed: bool, bits: u32, field: u32) -> u32
     requires { ⌜ (1 ≤ bits) × (bits ≤ 32) × (field < 2 ^ bits) ⌝ }
     ensures { λ r. ⌜ r ≡ extended signed bits field ⌝ }
 {
-    let value = field as u64;
-    if !signed | (value < power_of_two(bits - 1)) {
-        return field;
-    }
-    (value + (0x100000000 - power_of_two(bits))) as u32
+    let top = top_bit(signed, bits);
+    let turned = (field as u64 + top) % power_of_two(bits);
+    std::num::wrapping_sub_u32(turned as u32, top as u32)
+}
+
+// The top bit of a signed field, 0 of another.
+fn top_bit(signed: bool, bits: u32) -> u64
+    requires { ⌜ (1 ≤ bits) × (bits ≤ 32) ⌝ }
+    ensures { λ r. ⌜ (r ≡ pick signed (2 ^ (bits - 1)) 0) × (r < 2 ^ 32) ⌝ }
+{
+    if signed { power_of_two(bits - 1) } else { 0 }
 }
 
 // The word with the low `bits` bits of `x` from bit `at` on: the bits of the field that differ are inverted.

@@ -3,8 +3,8 @@
 use mathlib.Core.Bool.{Bool, true, false, not, _&&_, _||_}
 use mathlib.Core.List.{List, [], _∷_}
 use mathlib.Core.Logic.{⊎-elim}
-use mathlib.Core.Path.{_≡_, refl, sym, ap, _∙_}
-use Prim.Native.Nat.{ℕ, zero, suc, _+_, _-_, _%_, _≤_, _<_, zero-le}
+use mathlib.Core.Path.{_≡_, refl, sym, ap, ap₂, _∙_}
+use Prim.Native.Nat.{ℕ, zero, suc, _+_, _-_, _%_, _^_, _≤_, _<_, zero-le}
 use native.Mathlib.Nat.{mod-lt, mod-eq-of-lt, mod-self, mod-add-mod}
 use native.Mathlib.Omega.{arith}
 use borrow.Author.Tests.{leb-true, ltb-true, ltb-false, lt-ltb, le-ltb, le-leb, lt-leb, ne-eqb, not-false}
@@ -12,6 +12,8 @@ use denote.Enum.Declared.{tagOf}
 use types.Run.{OneOf, miss}
 use lib.Dec.{leb, ltb, eqb}
 use Rattle.memory.specs.Search.{pick}
+use Rattle.memory.specs.Integers.{atMost, lessThan, rank}
+use Rattle.memory.proofs.IntegerLaws.{rank-at-most, rank-less}
 use Rattle.memory.proofs.Search.{any-false, below-suc}
 use Rattle.memory.proofs.Tests.{and-split, true-or-false, lt-or-le, eq-or-ne}
 use Rattle.filter.proofs.Filter.{the-type}
@@ -113,6 +115,27 @@ own-remainder (suc p) n h = let below : n < suc p = omega (arith, h) in mod-eq-o
 pub every-passes : (signed : Bool) (f : Filter) (p d new old n : ℕ) → f ≡ OneEveryN p d → CountFits f n → eqb n d ≡ passes signed f new old n
 unfolding passes greatestCount
 every-passes signed f p d new old n e fits = let low : n ≤ p - 1 = rw e at (fits .low) in rw (e, own-remainder p n low)
+
+-- ---- values by their ranks, as the code compares them
+
+module _ (signed : Bool) {r : ℕ} (new : ℕ) (rank-new : r ≡ rank signed new) (fits : new < 2 ^ 32) where
+  module _ {q : ℕ} (old : ℕ) (rank-old : q ≡ rank signed old) (also : old < 2 ^ 32) where
+    pub above-old : ltb q r ≡ lessThan signed old new
+    above-old = rw (rank-new, rank-old) (rank-less signed old new also fits)
+
+    pub at-most-old : leb r q ≡ atMost signed new old
+    at-most-old = rw (rank-new, rank-old) (rank-at-most signed new old fits also)
+
+    pub below-old : ltb r q ≡ lessThan signed new old
+    below-old = rw (rank-new, rank-old) (rank-less signed new old fits also)
+
+    pub at-least-old : leb q r ≡ atMost signed old new
+    at-least-old = rw (rank-new, rank-old) (rank-at-most signed old new also fits)
+
+  pub between : {p q : ℕ} (min max : ℕ) → p ≡ rank signed min → min < 2 ^ 32 → q ≡ rank signed max → max < 2 ^ 32
+      → (leb p r && leb r q) ≡ (atMost signed min new && atMost signed new max)
+  between min max rank-min low rank-max high =
+      rw (rank-new, rank-min, rank-max) (ap₂ _&&_ (rank-at-most signed min new low fits) (rank-at-most signed new max fits high))
 
 -- ---- the filter with a period
 

@@ -81,12 +81,14 @@ pub fn filter_right(number: u32, first: u32, second: u32) -> bool
     (number <= 13) & (first == 0) & (second == 0)
 }
 
-// Whether `new` passes, by old and the count, for an object that is signed or not. With filter 14 a count in its range is below
-// the period and needs no remainder.
+// Whether `new` passes, by old and the count, for an object that is signed or not: values are compared by their ranks. With filter
+// 14 a count in its range is below the period and needs no remainder.
 pub fn passes(signed: bool, filter: Filter, new: u32, old: u32, count: u8) -> bool
     requires { ⌜ CountFits filter count ⌝ }
     ensures { λ r. ⌜ r ≡ passes signed filter new old count ⌝ }
 {
+    let new_rank = memory::rank(signed, new);
+    let old_rank = memory::rank(signed, old);
     match filter {
         Filter::Always => true,
         Filter::Never => false,
@@ -98,18 +100,20 @@ pub fn passes(signed: bool, filter: Filter, new: u32, old: u32, count: u8) -> bo
         Filter::MaskedNewDiffersMaskedOld { mask } => new & mask != old & mask,
         Filter::NewIsWithin { min, max } => within(signed, min, new, max),
         Filter::NewIsOutside { min, max } => !within(signed, min, new, max),
-        Filter::NewIsGreater => memory::less_than(signed, old, new),
-        Filter::NewIsLessOrEqual => memory::at_most(signed, new, old),
-        Filter::NewIsLess => memory::less_than(signed, new, old),
-        Filter::NewIsGreaterOrEqual => memory::at_most(signed, old, new),
+        Filter::NewIsGreater => new_rank > old_rank,
+        Filter::NewIsLessOrEqual => new_rank <= old_rank,
+        Filter::NewIsLess => new_rank < old_rank,
+        Filter::NewIsGreaterOrEqual => new_rank >= old_rank,
         Filter::OneEveryN { period: _, offset } => count as u32 == offset,
     }
 }
 
+// Whether `new` is at least min and at most max.
 fn within(signed: bool, min: u32, new: u32, max: u32) -> bool
     ensures { λ r. ⌜ r ≡ (atMost signed min new && atMost signed new max) ⌝ }
 {
-    memory::at_most(signed, min, new) & memory::at_most(signed, new, max)
+    let new_rank = memory::rank(signed, new);
+    (memory::rank(signed, min) <= new_rank) & (new_rank <= memory::rank(signed, max))
 }
 
 // The count after one more filtering: it runs to the period less one and returns to 0.

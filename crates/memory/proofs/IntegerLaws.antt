@@ -92,6 +92,10 @@ pub not-at-most : (signed : Bool) (a b : ℕ) → not (atMost signed b a) ≡ le
 unfolding atMost lessThan
 not-at-most signed a b = not-leZ (integer signed a) (integer signed b)
 
+pub rank-less : (signed : Bool) (a b : ℕ) → a < 2 ^ 32 → b < 2 ^ 32 → ltb (rank signed a) (rank signed b) ≡ lessThan signed a b
+rank-less signed a b fits also =
+    sym (not-leb (rank signed a) (rank signed b)) ∙ ap not (rank-at-most signed b a also fits) ∙ not-at-most signed a b
+
 leZ-itself : (x : ℤ) → leZ x x ≡ true
 leZ-itself (pos a) = le-leb a a (omega arith)
 leZ-itself (negsuc a) = le-leb a a (omega arith)

@@ -4,33 +4,23 @@ ghost use mathlib.Core.Path.{_≡_};
 ghost use Prim.Native.Nat.{_+_, _≤_};
 ghost use lib.ListN.{length};
 ghost use Rattle.memory.specs.Texts.{Put};
-ghost use Rattle.memory.specs.Integers.{integer, atMost, lessThan, rank, integerField};
+ghost use Rattle.memory.specs.Integers.{integer, lessThan, rank, integerField};
 
 // From here on a signed value is negative.
 const FIRST_NEGATIVE: u32 = 0x80000000;
-
-// Whether a is at most b.
-pub fn at_most(signed: bool, a: u32, b: u32) -> bool
-    ensures { λ r. ⌜ r ≡ atMost signed a b ⌝ }
-{
-    rank(signed, a) <= rank(signed, b)
-}
 
 // Whether a is less than b.
 pub fn less_than(signed: bool, a: u32, b: u32) -> bool
     ensures { λ r. ⌜ r ≡ lessThan signed a b ⌝ }
 {
-    !at_most(signed, b, a)
+    rank(signed, a) < rank(signed, b)
 }
 
-// How far a value stands above the least one.
-fn rank(signed: bool, v: u32) -> u32
+// How far a value stands above the least one: of values of one sign, the greater has the greater rank.
+pub fn rank(signed: bool, v: u32) -> u32
     ensures { λ r. ⌜ r ≡ rank signed v ⌝ }
 {
-    if signed {
-        return std::num::wrapping_add_u32(v, FIRST_NEGATIVE);
-    }
-    v
+    std::num::wrapping_add_u32(v, if signed { FIRST_NEGATIVE } else { 0 })
 }
 
 // A blank and the integer that a value means.

@@ -3,9 +3,9 @@
 mod integers;
 mod texts;
 
-pub use integers::at_most;
 pub use integers::less_than;
 pub use integers::put_integer;
+pub use integers::rank;
 pub use texts::BLANK;
 pub use texts::put_decimal;
 pub use texts::put_digit;

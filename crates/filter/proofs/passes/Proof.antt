@@ -2,7 +2,7 @@
 -- Assumes nothing.
 use Rattle.filter.specs.Filters.{passes}
 use borrow.Author.Needs.{needs}
-use Rattle.filter.proofs.Laws.{every-passes}
+use Rattle.filter.proofs.Laws.{above-old, at-most-old, below-old, at-least-old, every-passes}
 use Rattle.filter.proofs.passes.Statement.{statement}
 use Rattle.filter.proofs.passes.Tie as tie
 
@@ -11,6 +11,8 @@ unfolding passes
 passes-spec =
     tie.close
     (tie.spec
+    (λ c κs. search needs)
+    (λ c κs. search needs)
     (λ c. search needs)
     (λ c. search needs)
     (λ c. search needs)
@@ -24,13 +26,9 @@ passes-spec =
     (λ c. search needs)
     (λ c κs. search needs)
     (λ c. search needs)
-    (λ c κs. search needs)
     (λ c. search needs)
-    (λ c κs. search needs)
     (λ c. search needs)
-    (λ c κs. search needs)
     (λ c. search needs)
-    (λ c κs. search needs)
     (λ c. search needs)
     (λ c. rw (c .enum-told .given .1))
     (λ c. rw (c .enum-told2 .given .1))
@@ -42,10 +40,10 @@ passes-spec =
     (λ c. rw (c .before .filter4 .given .1))
     (λ c. rw (c .before .before .filter5 .given .1) (c .within .ensures))
     (λ c. rw (c .before .before .filter6 .given .1, c .within2 .ensures))
-    (λ c. rw (c .before .enum-told5 .given .1) (c .less-than .ensures))
-    (λ c. rw (c .before .enum-told6 .given .1) (c .at-most .ensures))
-    (λ c. rw (c .before .enum-told7 .given .1) (c .less-than2 .ensures))
-    (λ c. rw (c .before .enum-told8 .given .1) (c .at-most2 .ensures))
+    (λ c. rw (c .enum-told5 .given .1) (search (needs, above-old)))
+    (λ c. rw (c .enum-told6 .given .1) (search (needs, at-most-old)))
+    (λ c. rw (c .enum-told7 .given .1) (search (needs, below-old)))
+    (λ c. rw (c .enum-told8 .given .1) (search (needs, at-least-old)))
     (λ c.
-    let at-start = c .before .before .before in
+    let at-start = c .before .before .before .before .before in
     every-passes (at-start .args .signed) _ _ _ (at-start .args .new) (at-start .args .old) (at-start .args .count) (c .before .filter7 .given .1) (at-start .pre)))
