@@ -28,7 +28,8 @@ use Rattle.layer.specs.Step.{Call, start, indication, step}
 use Rattle.trace.specs.Book.{Entry, Book, unopened, sends, lastOf, opened, advance, bookAfter, bookBit}
 use Rattle.trace.specs.Actions.{Action, single, group, leaves, groupSends, advanceBy, memoryAfterAll, bookAfterAll}
 use Rattle.trace.specs.Demand3.{Typed, ActionsTyped, done, wordOf, frame, names, CallKept, AllKept, ActionKept, ActionsKept}
-use Rattle.trace.specs.RoundTrip.{readingIn, readingOf, LastReads, LastExact, OlderReads, ipduBytes, StoredLast, StoredExactly, StoredEarlier, FramesRead, AllRead, ActionRead, ActionsRead, Runs, memoryOf, ActionsRun}
+use Rattle.trace.specs.RoundTrip.{readingIn, readingOf, LastReads, LastExact, OlderReads, ipduBytes, StoredLast, StoredExactly, StoredEarlier}
+use Rattle.trace.specs.RoundTrip.{FramesRead, AllRead, ActionRead, ActionsRead, Runs, memoryOf, ActionsRun}
 use Rattle.trace.specs.RoundTrip.{Takes, Arrived, Uncovered, Like}
 use Rattle.trace.proofs.Entries.{Full, advance-full, started-full, action-full, actions-full}
 use Rattle.trace.proofs.Covered.{last-sent, older-reads, whole-reads, last-reads}
