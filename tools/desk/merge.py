@@ -1,0 +1,52 @@
+"""A TOML file over the database that it names: what the TOML says of an I-PDU or a message is added, and wins where both say something."""
+import os
+
+from .sections import Section
+
+# Keys that say the same in two ways: the TOML's way replaces the database's.
+TWO_WAYS = [{"start_bit", "dbc_start_bit"}, {"initial_value", "initial_value_raw"}]
+
+
+def merged(path, data):
+    """The sections, the file of each key that the database gave, and the database's nodes."""
+    top = Section(path, "", data)
+    database, left_out = top.text("database", None), top.names("leave_out", [])
+    if database is None:
+        if left_out:
+            raise top.wrong("leave_out", "is for what a database has, and there is no database")
+        return data, {}, []
+    from .database import read
+    file = os.path.join(os.path.dirname(path), database)
+    below = read(file)
+    nodes = top.names("nodes", below["nodes"])
+    for name in left_out:
+        top.known("leave_out", name, [*below["ipdu"], *below["message"]], "I-PDU or message of the database")
+    kept = kept_of(below, data, nodes, left_out)
+    origins, both = {}, dict(data, nodes=nodes)
+    for kind in ("ipdu", "message"):
+        own = top.table(kind)
+        both[kind] = {}
+        for name in dict.fromkeys([*kept[kind], *own]):
+            given, over = kept[kind].get(name, {}), own.get(name, {})
+            if not isinstance(over, dict):
+                both[kind][name] = over
+                continue
+            hidden = {key for way in TWO_WAYS if way & set(over) for key in way}
+            given = {key: value for key, value in given.items() if key not in hidden}
+            both[kind][name] = {**given, **over}
+            origins[kind, name] = {key: file for key in given if key not in over}
+    return both, origins, below["nodes"]
+
+
+def kept_of(below, data, nodes, left_out):
+    """What of the database these nodes send or receive, without what the TOML leaves out."""
+    over = data.get("ipdu", {})
+
+    def ends(name, ipdu):
+        own = over.get(name, {}) if isinstance(over.get(name, {}), dict) else {}
+        carried = [message for message in below["message"].values() if message["ipdu"] == name]
+        return {own.get("sender", ipdu.get("sender")), *own.get("receivers", []), *(node for message in carried for node in message["receivers"])}
+
+    ipdus = {name: ipdu for name, ipdu in below["ipdu"].items() if name not in left_out and ends(name, ipdu) & set(nodes)}
+    messages = {name: message for name, message in below["message"].items() if name not in left_out and message["ipdu"] in ipdus}
+    return {"ipdu": ipdus, "message": messages}
