@@ -1,6 +1,6 @@
 #!/usr/bin/env python3
 """The program drive: what it says of files that it can't read and of missing arguments; and each script of examples/, over
-its table, prints what its .stdout file has. The tables are those that examples/tables.py has in words."""
+its table, prints what its .stdout file has. The table NAME.table is that of the node NAME in NAME.toml."""
 import glob
 import os
 import subprocess
@@ -11,8 +11,8 @@ sys.dont_write_bytecode = True
 TOP = os.path.join(os.path.dirname(os.path.abspath(__file__)), "..")
 PROGRAM = os.path.join(TOP, "target", "bin", "drive")
 EXAMPLES = os.path.join(TOP, "examples")
-sys.path.insert(0, EXAMPLES)
-from tables import TABLES
+sys.path.insert(0, os.path.join(TOP, "tools"))
+from desk.source import load  # noqa: E402
 
 USAGE = b"drive TABLE SCRIPT"
 CALLS = "start stop send initialise receive status marks clear_marks start_periodic stop_periodic indication confirm tick"
@@ -83,15 +83,19 @@ def output_that_cannot_be_written():
         subprocess.run(command, stdin=subprocess.DEVNULL, stdout=full, stderr=subprocess.DEVNULL, timeout=20)
 
 
+def names():
+    """The examples that have a script or a table."""
+    return sorted({os.path.splitext(os.path.basename(path))[0] for end in ("script", "table") for path in glob.glob(f"{EXAMPLES}/*.{end}")})
+
+
 def tables():
-    """Before the program is run: each example is whole, and has the table that tables.py describes."""
-    names = {os.path.splitext(os.path.basename(path))[0] for end in ("script", "table") for path in glob.glob(f"{EXAMPLES}/*.{end}")}
-    if names != set(TABLES):
-        sys.exit(f"drive.py: examples with a script or a table: {sorted(names)}; tables.py has {sorted(TABLES)}")
-    for name, data in TABLES.items():
-        if contents(f"{EXAMPLES}/{name}.table") != data:
-            sys.exit(f"drive.py: examples/{name}.table is not the one of tables.py: run 'python3 examples/tables.py'")
-    if TABLES["request"] != contents(os.path.join(TOP, "crates", "table_check", "stdin")):
+    """Before the program is run: each example is whole, and has the table that its TOML describes."""
+    for name in names():
+        described = [board.table for board in load(f"{EXAMPLES}/{name}.toml").boards() if board.node == name]
+        if described != [contents(f"{EXAMPLES}/{name}.table")]:
+            sys.exit(f"drive.py: examples/{name}.table is not the one of {name}.toml: "
+                     f"run 'tools/table compile examples/{name}.toml --node {name} --only table --out examples'")
+    if contents(f"{EXAMPLES}/request.table") != contents(os.path.join(TOP, "crates", "table_check", "stdin")):
         sys.exit("drive.py: examples/request.table is not case 12's table")
     called = {line.split()[0] for line in contents(f"{EXAMPLES}/van.script").decode().splitlines()}
     if called != set(CALLS.split()):
@@ -99,7 +103,7 @@ def tables():
 
 
 def examples():
-    for name in sorted(TABLES):
+    for name in names():
         table, script = f"{EXAMPLES}/{name}.table", f"{EXAMPLES}/{name}.script"
         run = drive(table, script)
         expected = contents(f"{EXAMPLES}/{name}.stdout")
