@@ -112,7 +112,7 @@ def examples():
             different = [(n, *line) for n, line in enumerate(lines, 1) if line[1] != line[2]]
             print(*different[:3], sep="\n")
         check(f"examples/{name}.script", run.stdout == expected and not run.stderr, run)
-    return len(TABLES)
+    return len(names())
 
 
 def main():
