@@ -30,7 +30,11 @@ class Section:
         self.taken = set()
 
     def wrong(self, key, reason):
-        return wrong(self.origins.get(key, self.file), f"{self.path}.{key}" if self.path and key else self.path or key, reason)
+        return wrong(self.origins.get(key, self.file), self.full(key), reason)
+
+    def full(self, key):
+        """A key with the section that it stands in."""
+        return f"{self.path}.{key}" if self.path else key
 
     def has(self, key):
         return key in self.data
@@ -56,7 +60,7 @@ class Section:
         return self.take(key, default, lambda value: isinstance(value, list) and all(isinstance(name, str) for name in value), "a list of names")
 
     def table(self, key):
-        return self.take(key, {}, lambda value: isinstance(value, dict), f"a section [{self.path}.{key}.NAME]")
+        return self.take(key, {}, lambda value: isinstance(value, dict), f"a section [{self.full(key)}.NAME]")
 
     def number(self, key, default=NO_DEFAULT):
         value = self.take(key, default, is_number, "a number")
@@ -141,7 +145,7 @@ class Section:
             return default or Filter()
         given = self.take(key, None, lambda value: isinstance(value, (str, dict)), "a filter's name, or a table with algorithm and constants")
         given = {"algorithm": given} if isinstance(given, str) else given
-        inner = Section(self.origins.get(key, self.file), f"{self.path}.{key}", given)
+        inner = Section(self.origins.get(key, self.file), self.full(key), given)
         if isinstance(given.get("algorithm"), str):
             given["algorithm"] = given["algorithm"].removeprefix("F_")
         number = inner.one_of("algorithm", [name for name, _ in FILTERS])

@@ -24,6 +24,11 @@ def load(path):
     return Source(path, *merged(path, data)).network()
 
 
+def receives(section):
+    """Whether a section names another message: those are read after the others, wherever they stand."""
+    return isinstance(section[1], dict) and "receives" in section[1]
+
+
 class Skipped(Exception):
     """A section that names one which is wrong itself."""
 
@@ -53,12 +58,13 @@ class Source:
         for kind, read in (("ipdu", self.ipdu), ("message", self.message)):
             sections = top.table(kind)
             self.check_names(kind, sections)
-            for name, data in sections.items():
+            for name, data in sorted(sections.items(), key=receives):
                 self.section(kind, name, data, read)
         top.finish()
         if self.problems:
             raise Wrong(*self.problems)
-        network = Network(title, self.file, self.tick, nodes, outside, list(self.ipdus.values()), list(self.messages.values()))
+        messages = [self.messages[name] for name in top.table("message")]
+        network = Network(title, self.file, self.tick, nodes, outside, list(self.ipdus.values()), messages)
         self.check_whole(network)
         return network
 
@@ -86,7 +92,7 @@ class Source:
         name = section.text(key)
         if (kind, name) in self.failed:
             raise Skipped
-        return found[section.known(key, name, found, {"ipdu": "I-PDU", "message": "message above this one"}[kind])]
+        return found[section.known(key, name, found, {"ipdu": "I-PDU", "message": "message"}[kind])]
 
     def node(self, section, key, name):
         return section.known(key, name, self.known_nodes, "node")
