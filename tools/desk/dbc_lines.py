@@ -1,0 +1,108 @@
+"""The lines of a DBC file beside what canmatrix reads of them: it passes over a line that it can't read, and here the line is refused by its number."""
+import codecs
+import io
+import re
+
+from .wrong import wrong
+
+EXTENDED = 0x1FFFFFFF  # the greatest CAN identifier
+QUOTE = re.compile(r'(?<!\\)"')
+PLACE = re.compile(r"\b(BO_|SG_)\s+(\w+)")
+ENUM = re.compile(r'BA_DEF_ +\w\w_ +"([^"]+)" +ENUM +(.*);')
+ATTRIBUTE = re.compile(r'(BA_ +"([^"]+)" +(?:BO_ +\d+|SG_ +\d+ +\w+|BU_ +\w+) +)(.*?)( *;.*)', re.DOTALL)
+TEXT = re.compile(r'"(\\.|[^"\\])*"')
+OURS = re.compile(r'BA_ +"Gen(Msg|Sig)')  # the attributes that are looked at
+
+
+class Lines:
+    """`data` is what canmatrix is to read, in `encoding`: the file with the words of enumerations as their indices."""
+
+    def __init__(self, file, data):
+        self.file = file
+        if b"\0" in data:
+            raise wrong(file, "", f"is no DBC: byte {data.index(0)} is 0, and a DBC is text")
+        data = data.removeprefix(codecs.BOM_UTF8)
+        self.encoding = encoding_of(data)
+        lines = [line.decode(self.encoding) for line in io.BytesIO(data)]
+        self.statements = self.outside_texts(lines)
+        self.enums = {found[1]: re.findall(r'"([^"]*)"', found[2]) for _, line in self.statements if (found := ENUM.match(line.strip()))}
+        for number, line in self.statements:
+            lines[number - 1] = self.with_index(number, line)
+        self.lines = [line.encode(self.encoding) for line in lines]
+        self.data = b"".join(self.lines)
+
+    def wrong(self, number, reason):
+        return wrong(self.file, f"line {number}", reason)
+
+    def outside_texts(self, lines):
+        """Number and text of each line that does not begin inside quotes."""
+        found, opened = [], None
+        for number, line in enumerate(lines, 1):
+            if opened is None:
+                found.append((number, line))
+            if len(QUOTE.findall(line)) % 2:
+                opened = number if opened is None else None
+        if opened is not None:
+            raise self.wrong(opened, "has a quote that is never closed")
+        return found
+
+    def with_index(self, number, line):
+        """A line whose attribute has a word of its enumeration, with the word's index."""
+        found = ATTRIBUTE.match(line.strip())
+        if not found or found[2] not in self.enums:
+            return line
+        words, value = self.enums[found[2]], found[3]
+        index = words.index(value.strip('"')) if value.strip('"') in words else int(value) if value.isdecimal() else len(words)
+        if index >= len(words):
+            raise self.wrong(number, f"{value} is none of the {len(words)} values of {found[2]}")
+        return f"{found[1]}{index}{found[4]}\n"
+
+    def check(self, said, frames):
+        """Refuses a line that canmatrix could not read: `said` is what it printed, each such line after a complaint; `frames` is what it has read."""
+        complaints = set(said.splitlines())
+        for number, line in self.statements:
+            if repr(self.lines[number - 1]) in complaints and matters(line.strip()):
+                raise self.wrong(number, f"can't be read: {line.strip()}")
+        read = {}
+        for frame in frames:
+            read.setdefault((frame.arbitration_id.id, frame.arbitration_id.extended), []).append([signal.name for signal in frame.signals])
+        for number, identifier, signals in self.frames():
+            names = read[identifier].pop(0) if read.get(identifier) else None
+            lost = number if names is None else next((at for at, name in signals if name not in names), number) if len(names) < len(signals) else None
+            if lost is not None:
+                raise self.wrong(lost, f"canmatrix passes over {'a BO_' if lost == number else 'an SG_'} there")
+
+    def frames(self):
+        """Line, identifier and signals (line and name) of each frame, as the words BO_ and SG_ say."""
+        found = []
+        for number, line in self.statements:
+            if not line.strip().startswith(("BO_ ", "BO_\t", "SG_ ", "SG_\t")):
+                continue
+            for word, name in PLACE.findall(TEXT.sub("", line)):
+                if word == "BO_":
+                    found.append((number, identifier_of(name), []))
+                elif not found:
+                    raise self.wrong(number, "is a signal before the first frame")
+                else:
+                    found[-1][2].append((number, name))
+        return found
+
+
+def matters(line):
+    """Whether a line has something that is read here."""
+    return bool(OURS.match(line)) if line.startswith("BA_ ") else not line.startswith(("EV_", "SIG_GROUP_"))
+
+
+def identifier_of(text):
+    """A BO_ line's number: bit 31 says that the identifier is an extended one."""
+    number = int(text) if text.isdecimal() else -1
+    return number & EXTENDED, bool(number >> 31)
+
+
+def encoding_of(data):
+    """UTF-8 where it can be, else Latin-1, as most tools write."""
+    try:
+        data.decode()
+        return "utf-8"
+    except UnicodeDecodeError:
+        return "iso-8859-1"
