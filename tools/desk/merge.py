@@ -2,19 +2,22 @@
 import os
 
 from .sections import Section
+from .wrong import line
 
 # Keys that say the same in two ways: the TOML's way replaces the database's.
 TWO_WAYS = [{"start_bit", "dbc_start_bit"}, {"initial_value", "initial_value_raw"}]
+# Keys of an I-PDU that has a sender.
+SENDING = {"transmission_mode", "time_period_ms", "time_offset_ms", "minimum_delay_time_ms"}
 
 
 def merged(path, data):
-    """The sections, the file of each key that the database gave, and the database's nodes."""
+    """The sections, the file of each key that the database gave, the database's nodes, and by section the lines that refuse what it has."""
     top = Section(path, "", data)
     database, left_out = top.text("database", None), top.names("leave_out", [])
     if database is None:
         if left_out:
             raise top.wrong("leave_out", "is for what a database has, and there is no database")
-        return data, {}, []
+        return data, {}, [], {}
     from .database import read
     file = os.path.join(os.path.dirname(path), database)
     below = read(file)
@@ -22,7 +25,7 @@ def merged(path, data):
     for name in left_out:
         top.known("leave_out", name, [*below["ipdu"], *below["message"]], "I-PDU or message of the database")
     kept = kept_of(below, data, nodes, left_out)
-    origins, both = {}, dict(data, nodes=nodes)
+    origins, refused, both = {}, {}, dict(data, nodes=nodes)
     for kind in ("ipdu", "message"):
         own = top.table(kind)
         both[kind] = {}
@@ -31,11 +34,15 @@ def merged(path, data):
             if not isinstance(over, dict):
                 both[kind][name] = over
                 continue
-            hidden = {key for way in TWO_WAYS if way & set(over) for key in way}
-            given = {key: value for key, value in given.items() if key not in hidden}
+            hidden = {key for way in TWO_WAYS if way & set(over) for key in way} | set(over)
+            if kind == "ipdu" and "sender" not in given and "sender" not in over:
+                hidden |= SENDING
+            reasons = given.get("refused", {})
+            given = {key: value for key, value in given.items() if key not in hidden and key != "refused"}
             both[kind][name] = {**given, **over}
-            origins[kind, name] = {key: file for key in given if key not in over}
-    return both, origins, below["nodes"]
+            origins[kind, name] = dict.fromkeys(given, file)
+            refused[kind, name] = [line(file, f"{kind}.{name}.{key}".rstrip("."), reason) for key, reason in reasons.items() if key not in hidden]
+    return both, origins, below["nodes"], refused
 
 
 def kept_of(below, data, nodes, left_out):

@@ -34,8 +34,8 @@ class Skipped(Exception):
 
 
 class Source:
-    def __init__(self, file, data, origins, known_nodes):
-        self.file, self.data, self.origins = file, data, origins
+    def __init__(self, file, data, origins, known_nodes, refused):
+        self.file, self.data, self.origins, self.refused = file, data, origins, refused
         self.top = Section(file, "", data)
         self.problems, self.failed = [], set()
         self.ipdus, self.messages = {}, {}
@@ -79,6 +79,8 @@ class Source:
         try:
             if not isinstance(data, dict):
                 raise wrong(self.file, section.path, f"has to be a section [{section.path}]")
+            if self.refused.get((kind, name)):
+                raise Wrong(*self.refused[kind, name])
             read(name, section)
             section.finish()
         except Skipped:
