@@ -46,14 +46,10 @@ def merged(path, data):
 
 
 def kept_of(below, data, nodes, left_out):
-    """What of the database these nodes send or receive, without what the TOML leaves out."""
-    over = data.get("ipdu", {})
-
-    def ends(name, ipdu):
-        own = over.get(name, {}) if isinstance(over.get(name, {}), dict) else {}
-        carried = [message for message in below["message"].values() if message["ipdu"] == name]
-        return {own.get("sender", ipdu.get("sender")), *own.get("receivers", []), *(node for message in carried for node in message["receivers"])}
-
-    ipdus = {name: ipdu for name, ipdu in below["ipdu"].items() if name not in left_out and ends(name, ipdu) & set(nodes)}
+    """What of the database these nodes send or receive or the TOML has a section for, without what the TOML leaves out."""
+    wanted = {*data.get("ipdu", {}), *(below["message"][name]["ipdu"] for name in data.get("message", {}) if name in below["message"])}
+    wanted |= {name for name, ipdu in below["ipdu"].items() if ipdu.get("sender") in nodes}
+    wanted |= {message["ipdu"] for message in below["message"].values() if set(message["receivers"]) & set(nodes)}
+    ipdus = {name: ipdu for name, ipdu in below["ipdu"].items() if name in wanted and name not in left_out}
     messages = {name: message for name, message in below["message"].items() if name not in left_out and message["ipdu"] in ipdus}
     return {"ipdu": ipdus, "message": messages}
