@@ -21,13 +21,14 @@ def merged(path, data):
     from .database import read
     file = os.path.join(os.path.dirname(path), database)
     below = read(file)
+    data, left_out = with_own_names(top, below), [own_name(below, name) for name in left_out]
     nodes = top.names("nodes", below["nodes"])
     for name in left_out:
         top.known("leave_out", name, [*below["ipdu"], *below["message"]], "I-PDU or message of the database")
     kept = kept_of(below, data, nodes, left_out)
     origins, refused, both = {}, {}, dict(data, nodes=nodes)
     for kind in ("ipdu", "message"):
-        own = top.table(kind)
+        own = data[kind]
         both[kind] = {}
         for name in dict.fromkeys([*kept[kind], *own]):
             given, over = kept[kind].get(name, {}), own.get(name, {})
@@ -45,9 +46,28 @@ def merged(path, data):
     return both, origins, below["nodes"], refused
 
 
+def own_name(below, name):
+    """The database's name of a message that the TOML calls FRAME.SIGNAL."""
+    frame, _, signal = name.partition(".")
+    return signal if name not in below["message"] and below["message"].get(signal, {}).get("ipdu") == frame else name
+
+
+def with_own_names(top, below):
+    """The TOML with the database's names of its messages."""
+    sections, messages = {kind: top.table(kind) for kind in ("ipdu", "message")}, {}
+    for written, section in sections["message"].items():
+        name = own_name(below, written)
+        if name in messages:
+            raise top.wrong(f"message.{written}", f"is {name}, which has a section already")
+        if isinstance(section, dict) and isinstance(section.get("receives"), str):
+            section = dict(section, receives=own_name(below, section["receives"]))
+        messages[name] = section
+    return dict(top.data, ipdu=sections["ipdu"], message=messages)
+
+
 def kept_of(below, data, nodes, left_out):
     """What of the database these nodes send or receive or the TOML has a section for, without what the TOML leaves out."""
-    wanted = {*data.get("ipdu", {}), *(below["message"][name]["ipdu"] for name in data.get("message", {}) if name in below["message"])}
+    wanted = {*data["ipdu"], *(below["message"][name]["ipdu"] for name in data["message"] if name in below["message"])}
     wanted |= {name for name, ipdu in below["ipdu"].items() if ipdu.get("sender") in nodes}
     wanted |= {message["ipdu"] for message in below["message"].values() if set(message["receivers"]) & set(nodes)}
     ipdus = {name: ipdu for name, ipdu in below["ipdu"].items() if name in wanted and name not in left_out}
