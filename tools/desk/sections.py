@@ -8,10 +8,14 @@ from .records import MOST_TICKS, WHOLE
 from .wrong import wrong
 
 NO_DEFAULT = object()
+MOST_DIGITS = 30  # of a number, before its point or behind it
 
 
 def is_number(value):
-    return isinstance(value, (int, Decimal)) and not isinstance(value, bool)
+    """Whether it can be reckoned with: it is neither infinite nor none at all, and has no exponent out of all proportion."""
+    if not isinstance(value, (int, Decimal)) or isinstance(value, bool):
+        return False
+    return Decimal(value).is_finite() and abs(Decimal(value).adjusted()) <= MOST_DIGITS
 
 
 def is_whole(value):
