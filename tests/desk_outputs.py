@@ -11,6 +11,7 @@ import subprocess
 import sys
 import tempfile
 from fractions import Fraction
+from math import lcm
 
 sys.dont_write_bytecode = True
 HERE = os.path.dirname(os.path.realpath(__file__))
@@ -33,7 +34,7 @@ LANGUAGES = {"gcc": ["gcc", "-std=c99", *WARNINGS_ON, "-x", "c"], "g++": ["g++",
 VAN_FILE = os.path.join(TOP, "examples", "van.toml")
 WIDEST = 120
 MOST_ALL = 10  # messages of up to so many bits are tried with all their words
-ROUNDED = ["radAngle", "FarOff"]  # their factors and offsets are too long for sums of whole doubles
+ROUNDED = ["radAngle", "FarOff", "Tiny"]  # their factors and offsets are too long for sums of whole doubles
 # Name, sending and receiving node, I-PDU, message, value in units.
 TRIPS = [
     ("trip 0", "VAN", "CASE", "HUMIDITY", "FRONT_HUMIDITY", 61.3), ("trip 1", "VAN", "CASE", "HUMIDITY", "REAR_HUMIDITY", 0.7),
@@ -42,7 +43,7 @@ TRIPS = [
     ("trip 6", "RH_FRONT", "N9BOX", "FRAME_ONE", "CO2_LEVEL", -167.75), ("trip 7", "RH_FRONT", "N9BOX", "FRAME_ONE", "FRAME_SIGNAL", 34.7483647),
     ("trip 8", "N9BOX", "RH_FRONT", "STRUCT", "FALLS", 19.5), ("trip 9", "N9BOX", "RH_FRONT", "STRUCT", "WHOLE_STEPS", 12884901892.0),
 ]
-tried = {"constants": 0, "values": 0, "words": 0, "trips": 0, "compilations": 0, "refused": 0, "filters": 0}
+tried = {"constants": 0, "values": 0, "words": 0, "middles": 0, "trips": 0, "compilations": 0, "refused": 0, "filters": 0}
 
 
 def fail(words):
@@ -126,10 +127,16 @@ def nearest_words(thing, value):
     if value in (float("inf"), float("-inf")):
         return {thing.greatest() if (value > 0) == (thing.factor > 0) else thing.least()}
     raw = (Fraction(value) - thing.offset) / thing.factor
-    doubt = (abs(Fraction(value)) + abs(thing.offset)) / abs(thing.factor) / 2**51
+    divisor = lcm(thing.factor.denominator, thing.offset.denominator)
+    sums = [Fraction(value) * divisor, (Fraction(value) - thing.offset) * divisor, raw]
+    doubt = 0 if all(is_double(number) for number in sums) else (abs(Fraction(value)) + abs(thing.offset)) / abs(thing.factor) / 2**51
+    tried["middles"] += not doubt and abs(raw) % 1 == Fraction(1, 2)
     away = Fraction(1, 2) if raw >= 0 else Fraction(-1, 2)
-    ends = {int(raw + away + sign * doubt) for sign in (1, -1, 0)} if doubt else {int(raw + away)}
-    return {max(thing.least(), min(thing.greatest(), end)) for end in ends}
+    return {max(thing.least(), min(thing.greatest(), int(raw + away + sign * doubt))) for sign in (1, -1, 0)}
+
+
+def is_double(number):
+    return abs(number) < 2**1023 and Fraction(float(number)) == number
 
 
 def check_answers(program, nodes, language):
@@ -165,6 +172,23 @@ def check_printed(printed, wanted, language):
             fail(f"{language}: prints {got}, should be {want}")
     if len(printed) != len(wanted):
         fail(f"{language}: prints {len(printed)} lines, should be {len(wanted)}")
+
+
+def check_declared(text, pattern, wanted, what):
+    """A header has these names and no other."""
+    found = re.findall(pattern, text, flags=re.M)
+    if sorted(found) != sorted(wanted):
+        fail(f"{what} has {sorted(set(found) ^ set(wanted))} too much or too little")
+
+
+def check_names(boards, nodes):
+    for prefix, node in nodes.items():
+        header, module, constants = c_header(boards[prefix][1]), rust_module(boards[prefix][1]), list(node.constants())
+        functions = [f"{thing.constant.lower()}_{way}" for thing in node.things for way in ("value", "word")]
+        check_declared(header, rf"^#define {prefix}_(\w+)", [*constants, "H", "CAST", "CAST"], f"{prefix}'s header")
+        check_declared(header, rf"^static inline \w+ {prefix.lower()}_(\w+)\(", [*functions, "signed", "nearest"], f"{prefix}'s header")
+        check_declared(module, r"^pub const (\w+):", [*constants[1:], "TICK", "TABLE"], f"{prefix}'s module")
+        check_declared(module, r"^pub fn (\w+)\(", functions, f"{prefix}'s module")
 
 
 def check_c(folder, boards, nodes, compiler):
@@ -271,6 +295,7 @@ def main():
     with tempfile.TemporaryDirectory() as folder:
         boards = all_boards(folder)
         nodes = {prefix: Expected(text, board.node) for prefix, (text, board) in boards.items()}
+        check_names(boards, nodes)
         check_refused(folder)
         check_reports(folder, boards)
         check_filters()

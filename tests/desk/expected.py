@@ -11,12 +11,13 @@ NAMES = {
     "FrontDisplay": "FRONT_DISPLAY", "Freezer": "FREEZER", "FreezerDisplay": "FREEZER_DISPLAY", "CaseFreezer": "CASE_FREEZER",
     "RHFront": "RH_FRONT", "_9box": "N9BOX", "bare": "BARE", "Frame.One": "FRAME_ONE", "struct": "STRUCT", "VIN": "VIN", "CO2Level": "CO2_LEVEL",
     "Frame.Signal": "FRAME_SIGNAL", "int": "INT", "self": "SELF", "_1": "N1", "Falls": "FALLS", "radAngle": "RAD_ANGLE", "whole__steps_": "WHOLE_STEPS",
-    "State": "STATE", "Inner2Of": "INNER2_OF", "Alone": "ALONE", "match": "MATCH", "FarOff": "FAR_OFF", "hears": "HEARS", "Silent": "SILENT",
+    "State": "STATE", "Inner2Of": "INNER2_OF", "Alone": "ALONE", "match": "MATCH", "FarOff": "FAR_OFF", "hears": "HEARS", "Silent": "SILENT", "Tiny": "TINY",
 }
 # The named values that have a constant, by message, by hand.
 VALUES = {
     "Door": {"DOOR_CLOSED": 0, "DOOR_OPEN": 1},
-    "State": {"STATE_N_A": -1, "STATE_RESERVED_0": 0, "STATE_RESERVED_1": 1, "STATE_5_V": 2, "STATE_OFFNEN": 3, "STATE_VALUE_4": 4, "STATE_VALUE_MINUS_5": -5},
+    "State": {"STATE_N_A": -1, "STATE_RESERVED_0": 0, "STATE_RESERVED_1": 1,
+              "STATE_5_V": 2, "STATE_OFFNEN": 3, "STATE_VALUE_4": 4, "STATE_RESERVED_MINUS_5": -5},
 }
 
 

@@ -59,7 +59,7 @@ ipdu = "Frame.One"
 start_bit = 43
 size_in_bits = 4
 signed = true
-values = { -1 = "n/a", 0 = "Reserved", 1 = "reserved", 2 = "5 V", 3 = "öffnen", 4 = "%%", -5 = "", 300 = "too far", -9 = "too low" }
+values = { -1 = "n/a", 0 = "Reserved", 1 = "reserved", 2 = "5 V", 3 = "öffnen", 4 = "%%", -5 = "RESERVED", 300 = "too far", -9 = "too low" }
 
 [message.self]
 ipdu = "Frame.One"
@@ -125,6 +125,11 @@ receives = "self"
 node = "_9box"
 signed = true
 factor = 0.1
+
+[message.Tiny]
+node = "_9box"
+direction = "received"
+factor = 1e-300
 '''
 
 # A node with nothing at all, and one with an I-PDU and no message.
@@ -183,12 +188,14 @@ REFUSED = [
     ({"first": "_", "second": "Door"}, ["message._: \"_\" has no letter and no digit, so no constant can be named after it"]),
     ({"nodes": '["van", "VAN"]'}, ["nodes: van and VAN both become VAN_ in their headers"]),
     ({"nodes": '["INT32"]', "sender": "INT32", "second": "max"},
-     ["message.max: becomes INT32_MAX in node INT32's header, a macro of <stdint.h> or birnenschloss.h"]),
+     ["nodes: \"INT32\" makes INT32_MAX of message.max, a macro of <stdint.h> or a name of birnenschloss.h"]),
+    ({"nodes": '["birnenschloss"]', "sender": "birnenschloss"},
+     ["nodes: \"birnenschloss\" makes BIRNENSCHLOSS_H of what every header has, a macro of <stdint.h> or a name of birnenschloss.h"]),
     ({"tick": "0.0005"}, ["tick_ms: is 0.0005; a header gives the tick in whole microseconds, 1 to 4294967295"]),
     ({"tick": "0.0125"}, ["tick_ms: is 0.0125; a header gives the tick in whole microseconds, 1 to 4294967295"]),
     ({"tick": "4294967.296"}, ["tick_ms: is 4294967.296; a header gives the tick in whole microseconds, 1 to 4294967295"]),
-    ({"factor": "1e400"}, ["message.Door.factor: 1E+400 is more than a double of a header can hold"]),
-    ({"factor": "1e-400"}, ["message.Door.factor: 1E-400 is more than a double of a header can hold"]),
+    ({"factor": "1e400"}, ["message.Door.factor: 1E+400 is beyond the doubles that a header has it in"]),
+    ({"factor": "1e-400"}, ["message.Door.factor: 1E-400 is beyond the doubles that a header has it in"]),
 ]
 
 # Each reason for a look, and beside it what is close to it and right.

@@ -88,7 +88,9 @@ uint32_t second(void)
 
 def c_program(nodes, trips):
     """`nodes` are Expected by constant; `trips` are (name, from, to, I-PDU, message, value), nodes and names as constants."""
-    lines = ["static void constants(void)", "{"]
+    lines = [f"typedef char has_32_bits_{prefix}_{name}[sizeof({prefix}_{name}) == 4 ? 1 : -1];" for prefix, node in nodes.items()
+             for name, (kind, _) in node.constants().items() if kind in ("whole", "number")]
+    lines += ["static void constants(void)", "{"]
     for prefix, node in nodes.items():
         lines += [f'    {kind}("{prefix} {name}", {prefix}_{name});' for name, (kind, _) in node.constants().items()]
         lines.append(f'    bytes("{prefix} TABLE", {prefix.lower()}_table, sizeof {prefix.lower()}_table);')

@@ -3,6 +3,7 @@ import re
 import unicodedata
 from collections import Counter
 from dataclasses import dataclass
+from fractions import Fraction
 
 from . import bits
 from .words import ipdu_words, object_words, one_line
@@ -10,6 +11,7 @@ from .wrong import Wrong, line, wrong
 
 IPDU = "IPDU_"  # before the name of an I-PDU, so that a message may have the same name
 OWN = ["H", "CAST", "TICK", "TICK_US", "TABLE", "IPDUS", "OBJECTS"]  # what the files have for themselves
+OWN_KEY = "what every header has"
 # Macros of <stdint.h> and birnenschloss.h, which a node's name could lead to.
 MACROS = re.compile(r"(U?INT(_LEAST|_FAST)?(8|16|32|64)|U?INT(MAX|PTR)|PTRDIFF|SIZE|SIG_ATOMIC|WCHAR|WINT)_(MIN|MAX|WIDTH|C)"
                     r"|E_OK|E_COM_(ID|LENGTH|LIMIT|NOMSG)|BIRNENSCHLOSS_.*")
@@ -105,22 +107,23 @@ def constants(board):
 
 def check(board, made):
     """Refuses names that are taken: one line for each two keys."""
-    owners, problems = dict.fromkeys(OWN, "what every header has"), {}
-    for one in (one for group in made.ipdus + made.objects for one in group):
-        whole = f"{made.prefix}_{one.name}"
-        taken = f"becomes {whole}, and so does {owners[one.name]}" if one.name in owners else ""
+    owners, problems = {}, {}
+    for name, key in [*((name, OWN_KEY) for name in OWN), *((one.name, one.key) for group in made.ipdus + made.objects for one in group)]:
+        whole = f"{made.prefix}_{name}"
         if MACROS.fullmatch(whole):
-            taken = f"becomes {whole} in node {board.node}'s header, a macro of <stdint.h> or birnenschloss.h"
-        if taken:
-            problems.setdefault((one.key, owners.get(one.name)), line(board.network.file, one.key, taken))
-        owners.setdefault(one.name, one.key)
+            place, reason = "nodes", f"\"{board.node}\" makes {whole} of {key}, a macro of <stdint.h> or a name of birnenschloss.h"
+        else:
+            place, reason = key, f"becomes {whole}, and so does {owners.get(name)}"
+        if name in owners or place == "nodes":
+            problems.setdefault((place, owners.get(name)), line(board.network.file, place, reason))
+        owners.setdefault(name, key)
     if problems:
         raise Wrong(*problems.values())
 
 
 def tick_microseconds(network):
     """The length of a tick, which has to be whole in microseconds and fit 32 bits."""
-    length = network.tick * 1000
+    length = Fraction(network.tick) * 1000
     if length % 1 or not 1 <= length <= MOST_MICROSECONDS:
         raise wrong(network.file, "tick_ms", f"is {network.milliseconds(1)}; a header gives the tick in whole microseconds, 1 to {MOST_MICROSECONDS}")
     return int(length)

@@ -4,6 +4,9 @@ from .constants import constants, tick_microseconds
 from .steps import check_doubles, literal, steps
 from .words import made_from, records
 
+KEYWORDS = set("""abstract as async await become box break const continue crate do dyn else enum extern false final fn for gen if impl in let loop macro match
+mod move mut override priv pub ref return self static struct super trait true try type typeof unsafe unsized use virtual where while yield""".split())
+
 HEAD = """\
 // {made}
 //
@@ -60,7 +63,8 @@ class Module:
         return "\n\n".join(parts) + "\n"
 
     def head(self):
-        name = self.names.prefix.lower()
+        lower = self.names.prefix.lower()
+        name = f"{lower}_node" if lower in KEYWORDS else lower
         path = "" if name == self.board.node else f"#[path = \"{self.board.node}.rs\"] "
         return HEAD.format(made=made_from(self.board), name=name, path=path)
 

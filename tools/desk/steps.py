@@ -1,7 +1,7 @@
 """How a raw value becomes one in units and back, as sums over doubles that read the same in C and in Rust."""
 from dataclasses import dataclass
 from fractions import Fraction
-from math import isinf, lcm
+from math import isfinite, lcm
 
 from . import bits
 from .records import MOST_BITS
@@ -56,5 +56,5 @@ def check_doubles(board):
     """Factors and offsets have to be numbers that a double can hold."""
     for entry in board.objects:
         for key, number in (("factor", entry.scaling.factor), ("offset", entry.scaling.offset)):
-            if isinf(float(number)) or (number and not float(number)):
-                raise wrong(board.network.file, f"message.{entry.name}.{key}", f"{number} is more than a double of a header can hold")
+            if not isfinite(float(number)) or (number and not float(number)):
+                raise wrong(board.network.file, f"message.{entry.name}.{key}", f"{number} is beyond the doubles that a header has it in")
