@@ -21,6 +21,7 @@ import programs  # noqa: E402
 from archive import ARCHIVE  # noqa: E402
 from desk.c_header import c_header  # noqa: E402
 from desk.network import FILTERS, Filter  # noqa: E402
+from desk.records import RECEIVE, SIGNED, ObjectRecord  # noqa: E402
 from desk.report import report  # noqa: E402
 from desk.rust_module import rust_module  # noqa: E402
 from desk.source import load  # noqa: E402
@@ -279,7 +280,7 @@ def check_filters():
             wanted = any((low <= value <= high) == (number == 8) for value in values)
         else:
             wanted = any(passes(chosen, value % 2**32, old % 2**32) for value in values for old in values)
-        if can_pass(chosen, size, signed) != wanted:
+        if can_pass(chosen, ObjectRecord(RECEIVE, bits=size, order=SIGNED if signed else 0)) != wanted:
             fail(f"{chosen} on {size} {'signed ' if signed else ''}bits: {wanted}")
         found.add((number, wanted))
         tried["filters"] += 1

@@ -2,9 +2,8 @@
 import re
 import textwrap
 
-from . import bits
 from .constants import constants, tick_microseconds
-from .steps import check_doubles, literal, steps
+from .steps import check_doubles, literal, raw_ends, steps
 from .words import made_from, records
 
 WIDTH = 100
@@ -34,6 +33,10 @@ static inline uint32_t {lower}_nearest(double raw, double least, double greatest
         whole++;
     return held < 0.0 ? 0u - whole : whole;
 }}
+
+/* Of each message object: its number, what its values mean, LEAST, GREATEST and INITIAL as raw
+ * values; _value gives the value in units of a word that was received, _word the word to send for
+ * the step nearest to a value in units, held to what the object's bits can hold. */
 """
 
 
@@ -103,14 +106,13 @@ class Header:
         return "\n".join([comment(made[0].words), *(self.define(one.name, WRITTEN[one.kind](one.value)) for one in made)])
 
     def object(self, entry, made):
-        record = entry.record
-        ends = bits.least(record.bits, record.signed), bits.greatest(record.bits, record.signed)
-        return self.constants(made) + "\n\n" + self.functions(made[0].name.lower(), steps(entry.scaling, record.signed), record.signed, ends)
+        return self.constants(made) + "\n\n" + self.functions(made[0].name.lower(), entry)
 
-    def functions(self, name, sums, is_signed, ends):
+    def functions(self, name, entry):
         """From a word to the value in units, and back."""
-        raw = f"{self.lower}_signed(word)" if is_signed else "word"
-        nearest = f"{self.lower}_nearest({sums.raw('value')}, {literal(ends[0])}, {literal(ends[1])})"
+        sums, ends = steps(entry.scaling, entry.record.signed), ", ".join(map(literal, raw_ends(entry.record)))
+        raw = f"{self.lower}_signed(word)" if entry.record.signed else "word"
+        nearest = f"{self.lower}_nearest({sums.raw('value')}, {ends})"
         return (f"static inline double {self.lower}_{name}_value(uint32_t word)\n{{\n    return {sums.value(raw)};\n}}\n\n"
                 f"static inline uint32_t {self.lower}_{name}_word(double value)\n{{\n    return {nearest};\n}}")
 

@@ -6,6 +6,7 @@ from dataclasses import dataclass
 from fractions import Fraction
 
 from . import bits
+from .steps import raw_ends
 from .words import ipdu_words, object_words, one_line
 from .wrong import Wrong, line, wrong
 
@@ -66,13 +67,12 @@ def ipdu_constants(board, number):
 
 
 def object_constants(board, entry):
-    record, scaling, signed = entry.record, entry.scaling, entry.record.signed
-    key, raw = f"message.{entry.name}", "signed" if signed else "unsigned"
+    record, scaling, (least, greatest) = entry.record, entry.scaling, raw_ends(entry.record)
+    key, raw = f"message.{entry.name}", "signed" if record.signed else "unsigned"
     name = identifier(board.network.file, key, entry.name)
     rows = [("_FACTOR", "Step", "real", scaling.factor), ("_OFFSET", "Value at raw 0", "real", scaling.offset), ("_UNIT", "Unit", "text", scaling.unit),
-            ("_BITS", "Bits", "bits", record.bits), ("_LEAST", "Least raw value", raw, bits.least(record.bits, signed)),
-            ("_GREATEST", "Greatest raw value", raw, bits.greatest(record.bits, signed)),
-            ("_INITIAL", "Initial raw value", raw, bits.meant(record.initial, signed))]
+            ("_BITS", "Bits", "bits", record.bits), ("_LEAST", "Least raw value", raw, least), ("_GREATEST", "Greatest raw value", raw, greatest),
+            ("_INITIAL", "Initial raw value", raw, bits.meant(record.initial, record.signed))]
     named = {value: (word, one_line(scaling.names[value])) for value, word in value_names(entry).items()}
     return [Constant(name, object_words(board, entry), "object", entry.number, key),
             *(Constant(name + suffix, f"{words} of {entry.name}.", kind, value, key) for suffix, words, kind, value in rows),
@@ -82,7 +82,7 @@ def object_constants(board, entry):
 
 def value_names(entry):
     """The constant's end for each named value that the object's bits can hold. Where several would be the same, each ends in its raw value."""
-    least, greatest = bits.least(entry.record.bits, entry.record.signed), bits.greatest(entry.record.bits, entry.record.signed)
+    least, greatest = raw_ends(entry.record)
     held = {raw: constant(name) for raw, name in entry.scaling.names.items() if least <= raw <= greatest}
     alike = [word for word, number in Counter(held.values()).items() if number > 1 or not word]
 
@@ -123,7 +123,6 @@ def check(board, made):
 
 def tick_microseconds(network):
     """The length of a tick, which has to be whole in microseconds and fit 32 bits."""
-    length = Fraction(network.tick) * 1000
-    if length % 1 or not 1 <= length <= MOST_MICROSECONDS:
-        raise wrong(network.file, "tick_ms", f"is {network.milliseconds(1)}; a header gives the tick in whole microseconds, 1 to {MOST_MICROSECONDS}")
-    return int(length)
+    if not 1 <= network.tick * 1000 <= MOST_MICROSECONDS or Fraction(network.tick) * 1000 % 1:
+        raise wrong(network.file, "tick_ms", f"is {network.tick}; a header gives the tick in whole microseconds, 1 to {MOST_MICROSECONDS}")
+    return int(network.tick * 1000)

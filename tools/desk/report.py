@@ -4,6 +4,7 @@ import textwrap
 from . import bits
 from .network import MODES, TRANSFERS
 from .records import MIXED, MOST_DEPTHS, MOST_IPDUS, MOST_OBJECTS, NONE, PERIODIC, SEND
+from .steps import raw_ends
 from .words import can_identifier, count, ends, lies, made_by, one_line
 from .worth_a_look import worth_a_look
 
@@ -106,8 +107,7 @@ class Report:
         rows = [("no", "object", "step", "least", "greatest", "initial", "filter")]
         for entry in self.board.objects:
             record, scaling = entry.record, entry.scaling
-            ordered = sorted((bits.least(record.bits, record.signed), bits.greatest(record.bits, record.signed)), key=scaling.physical)
-            ranged = [one_line(f"{scaling.number(raw)} {scaling.unit}") for raw in ordered]
+            ranged = [one_line(f"{scaling.number(raw)} {scaling.unit}") for raw in sorted(raw_ends(record), key=scaling.physical)]
             step = one_line(f"{scaling.factor:f} {scaling.unit}") + (f" from {scaling.offset:f}" if scaling.offset else "")
             rows.append((str(entry.number), entry.name, step, *ranged, one_line(entry.text(record.initial)),
                          one_line(entry.filter().words(scaling, record.signed))))

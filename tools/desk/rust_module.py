@@ -1,7 +1,6 @@
 """A node's module for Rust, over the crate birnenschloss and without std: its table, typed constants, and functions between words and units."""
-from . import bits
 from .constants import constants, tick_microseconds
-from .steps import check_doubles, literal, steps
+from .steps import check_doubles, literal, raw_ends, steps
 from .words import made_from, records
 
 KEYWORDS = set("""abstract as async await become box break const continue crate do dyn else enum extern false final fn for gen if impl in let loop macro match
@@ -90,17 +89,16 @@ class Module:
         return "\n".join(constant(one.words, one.name, TYPES[one.kind], WRITTEN.get(one.kind, str)(one.value)) for one in made)
 
     def object(self, entry, made):
-        record = entry.record
-        ends = bits.least(record.bits, record.signed), bits.greatest(record.bits, record.signed)
-        return self.constants(made) + "\n\n" + self.functions(entry.name, made[0].name.lower(), steps(entry.scaling, record.signed), record.signed, ends)
+        return self.constants(made) + "\n\n" + self.functions(made[0].name.lower(), entry)
 
     @staticmethod
-    def functions(words, name, sums, signed, ends):
+    def functions(name, entry):
         """From a word to the value in units, and back."""
-        raw = "f64::from(word as i32)" if signed else "f64::from(word)"
-        return (f"/// The value in units of a word of {words}.\npub fn {name}_value(word: u32) -> f64 {{\n    {sums.value(raw)}\n}}\n\n"
-                f"/// The word of the step of {words} that is nearest to a value in units.\npub fn {name}_word(value: f64) -> u32 {{\n"
-                f"    nearest({sums.raw('value')}, {literal(ends[0])}, {literal(ends[1])})\n}}")
+        sums, ends = steps(entry.scaling, entry.record.signed), ", ".join(map(literal, raw_ends(entry.record)))
+        raw = "f64::from(word as i32)" if entry.record.signed else "f64::from(word)"
+        return (f"/// The value in units of a word of {entry.name}.\npub fn {name}_value(word: u32) -> f64 {{\n    {sums.value(raw)}\n}}\n\n"
+                f"/// The word of the step of {entry.name} that is nearest to a value in units.\npub fn {name}_word(value: f64) -> u32 {{\n"
+                f"    nearest({sums.raw('value')}, {ends})\n}}")
 
 
 def rust_module(board):

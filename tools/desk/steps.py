@@ -11,8 +11,13 @@ EXACT = 2**50  # below this a sum of whole doubles is exact, and a value divided
 
 
 def literal(number):
-    """A double as C and Rust write it."""
-    return repr(float(number))
+    """A double as C and Rust write it; 0 has no sign."""
+    return repr(float(Fraction(number)))
+
+
+def raw_ends(record):
+    """The least and the greatest raw value that an object's bits can hold."""
+    return bits.least(record.bits, record.signed), bits.greatest(record.bits, record.signed)
 
 
 @dataclass

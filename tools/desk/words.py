@@ -46,10 +46,6 @@ def ipdu_words(board, number):
     return commented(f"I-PDU {ipdu.name}: {direction}, {count(ipdu.length, 'byte')}, {can_identifier(ipdu)}", ipdu.comment)
 
 
-def order(record):
-    return ("signed " if record.signed else "") + ("big" if record.big else "little")
-
-
 def lies(board, entry):
     """The kind of an object, and the I-PDU or object that it belongs to."""
     record = entry.record
@@ -62,8 +58,8 @@ def lies(board, entry):
 def object_words(board, entry):
     """Kind, I-PDU, bits, filter and unit of an object."""
     record, unit = entry.record, one_line(entry.scaling.unit)
-    place = f", from bit {record.start}" if record.ipdu != NONE else ""
-    words = f"{entry.name}: {lies(board, entry)}, {count(record.bits, 'bit')}, {order(record)}{place}"
+    place = f", {'big' if record.big else 'little'}, from bit {record.start}" if record.ipdu != NONE else ""
+    words = f"{entry.name}: {lies(board, entry)}, {count(record.bits, 'signed bit' if record.signed else 'bit')}{place}"
     words += f"; {one_line(entry.filter().words(entry.scaling, record.signed))}" + (f"; in {unit}" if unit else "")
     return commented(words, entry.of.comment)
 

@@ -2,6 +2,7 @@
 from . import bits
 from .network import FILTERS
 from .records import MIXED, PERIODIC, RECEIVE, SEND, WHOLE
+from .steps import raw_ends
 from .words import count, one_line
 
 NEVER = next(number for number, (name, _) in enumerate(FILTERS) if name == "Never")
@@ -44,8 +45,7 @@ def shared(carried):
 
 
 def object_reasons(board, entry):
-    record, scaling = entry.record, entry.scaling
-    least, greatest = bits.least(record.bits, record.signed), bits.greatest(record.bits, record.signed)
+    record, scaling, (least, greatest) = entry.record, entry.scaling, raw_ends(entry.record)
     size = count(record.bits, "signed bit" if record.signed else "bit")
     if record.kind == SEND and not is_received(board.network, entry.of):
         yield "no node receives it"
@@ -53,7 +53,7 @@ def object_reasons(board, entry):
         yield "its filter is Never, so nothing arrives"
     if not least <= bits.meant(record.initial, record.signed) <= greatest:
         yield f"its initial value {one_line(entry.text(record.initial))} does not fit {size}"
-    if not can_pass(entry.filter(), record.bits, record.signed):
+    if not can_pass(entry.filter(), record):
         yield f"no value of {size} passes its filter {one_line(entry.filter().words(scaling, record.signed))}"
     for raw, name in scaling.names.items():
         if not least <= raw <= greatest:
@@ -69,14 +69,14 @@ def is_received(network, message):
     return bool(message.receivers) or any(other.receives is message or covers(other) for other in network.messages)
 
 
-def can_pass(chosen, size, signed):
+def can_pass(chosen, record):
     """Whether the constants of a filter let any value of so many bits pass. Those with no constants do, Never is no matter of constants."""
     constants = chosen.constants()
     if "mask" in constants:
-        return can_pass_mask(chosen.name, constants["mask"], constants.get("x"), size, signed)
+        return can_pass_mask(chosen.name, constants["mask"], constants.get("x"), record.bits, record.signed)
     if "min" in constants:
-        low, high = (bits.meant(constants[name], signed) for name in ("min", "max"))
-        least, greatest = bits.least(size, signed), bits.greatest(size, signed)
+        low, high = (bits.meant(constants[name], record.signed) for name in ("min", "max"))
+        least, greatest = raw_ends(record)
         return max(low, least) <= min(high, greatest) if chosen.name == "NewIsWithin" else least < low or greatest > high
     return True
 
