@@ -44,6 +44,14 @@ TRIPS = [
     ("trip 6", "RH_FRONT", "N9BOX", "FRAME_ONE", "CO2_LEVEL", -167.75), ("trip 7", "RH_FRONT", "N9BOX", "FRAME_ONE", "FRAME_SIGNAL", 34.7483647),
     ("trip 8", "N9BOX", "RH_FRONT", "STRUCT", "FALLS", 19.5), ("trip 9", "N9BOX", "RH_FRONT", "STRUCT", "WHOLE_STEPS", 12884901892.0),
 ]
+# Comments of van's header, one of each kind.
+COMMENTS = [
+    "Node van of Climate van. Made by tools/table compile from van.toml; not to be changed by hand.",
+    "3 I-PDUs, 10 objects, 384 bytes", "I-PDU 2, Case", "object 9, CaseFreezer",
+    "I-PDU Case: received, 4 bytes, identifier 0x200. What the case's own controller says",
+    "RearHumidity: sent in Humidity, 10 bits, big, from bit 24; NewIsDifferent; in %.",
+    "FreezerDisplay: received inside from Freezer, 32 signed bits; Always; in °C.",
+]
 tried = {"constants": 0, "values": 0, "words": 0, "middles": 0, "trips": 0, "compilations": 0, "refused": 0, "filters": 0}
 
 
@@ -192,6 +200,18 @@ def check_names(boards, nodes):
         check_declared(module, r"^pub fn (\w+)\(", functions, f"{prefix}'s module")
 
 
+def check_comments(folder, van):
+    """Those of van; and what a module says of its own declaration, where the node's name is none of a module in Rust."""
+    for words in COMMENTS:
+        if f"/* {words} */" not in c_header(van) or f"// {words}\n" not in rust_module(van).replace("///", "//"):
+            fail(f"a header or module of van has no comment: {words}")
+    for node, words in (("van", "`pub mod van;`"), ("match", "`#[path = \"match.rs\"] pub mod match_node;`"),
+                        ("RHFront", "`#[path = \"RHFront.rs\"] pub mod rh_front;`")):
+        board, = load(write(folder, "heads.toml", refused_text(nodes=f'["{node}"]', sender=node))).boards()
+        if words not in rust_module(board):
+            fail(f"the module of node {node} does not say {words}")
+
+
 def check_c(folder, boards, nodes, compiler):
     """Each header alone, in a file that uses nothing of it; then a program of two files."""
     for prefix, (_, board) in boards.items():
@@ -297,6 +317,7 @@ def main():
         boards = all_boards(folder)
         nodes = {prefix: Expected(text, board.node) for prefix, (text, board) in boards.items()}
         check_names(boards, nodes)
+        check_comments(folder, boards["VAN"][1])
         check_refused(folder)
         check_reports(folder, boards)
         check_filters()
