@@ -129,7 +129,7 @@ factor = 0.1
 [message.Tiny]
 node = "_9box"
 direction = "received"
-factor = 1e-300
+factor = 1e-28
 '''
 
 # A node with nothing at all, and one with an I-PDU and no message.
@@ -194,8 +194,6 @@ REFUSED = [
     ({"tick": "0.0005"}, ["tick_ms: is 0.0005; a header gives the tick in whole microseconds, 1 to 4294967295"]),
     ({"tick": "0.0125"}, ["tick_ms: is 0.0125; a header gives the tick in whole microseconds, 1 to 4294967295"]),
     ({"tick": "4294967.296"}, ["tick_ms: is 4294967.296; a header gives the tick in whole microseconds, 1 to 4294967295"]),
-    ({"factor": "1e400"}, ["message.Door.factor: 1E+400 is beyond the doubles that a header has it in"]),
-    ({"factor": "1e-400"}, ["message.Door.factor: 1E-400 is beyond the doubles that a header has it in"]),
 ]
 
 # Each reason for a look, and beside it what is close to it and right.

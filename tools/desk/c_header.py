@@ -3,7 +3,7 @@ import re
 import textwrap
 
 from .constants import constants, tick_microseconds
-from .steps import check_doubles, literal, raw_ends, steps
+from .steps import literal, raw_ends, steps
 from .words import made_from, records
 
 WIDTH = 100
@@ -73,7 +73,6 @@ class Header:
     """The parts of a board's header."""
 
     def __init__(self, board):
-        check_doubles(board)
         self.board, self.names = board, constants(board)
         self.upper, self.lower = self.names.prefix, self.names.prefix.lower()
 

@@ -1,6 +1,6 @@
 """A node's module for Rust, over the crate birnenschloss and without std: its table, typed constants, and functions between words and units."""
 from .constants import constants, tick_microseconds
-from .steps import check_doubles, literal, raw_ends, steps
+from .steps import literal, raw_ends, steps
 from .words import made_from, records
 
 KEYWORDS = set("""abstract as async await become box break const continue crate do dyn else enum extern false final fn for gen if impl in let loop macro match
@@ -50,7 +50,6 @@ class Module:
     """The parts of a board's module."""
 
     def __init__(self, board):
-        check_doubles(board)
         self.board, self.names = board, constants(board)
 
     def text(self):

@@ -51,7 +51,8 @@ class Section:
             return default
         value = self.data[key]
         if not is_right(value):
-            raise self.wrong(key, f"is {shown(value)}, has to be {what}")
+            digits = f" with at most {MOST_DIGITS} digits on either side of its point" if isinstance(value, Decimal) and not is_number(value) else ""
+            raise self.wrong(key, f"is {shown(value)}, has to be {what}{digits}")
         return value
 
     def text(self, key, default=NO_DEFAULT):

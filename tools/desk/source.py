@@ -50,6 +50,7 @@ class Source:
         if self.tick <= 0:
             raise top.wrong("tick_ms", f"is {self.tick}, has to be above 0")
         nodes, outside = top.names("nodes"), top.names("outside", [])
+        self.tables = nodes
         self.known_nodes = list(dict.fromkeys(nodes + outside + self.known_nodes))
         self.check_names("nodes", self.known_nodes)
         defaults = Section(self.file, "defaults", top.table("defaults"))
@@ -108,7 +109,7 @@ class Source:
         ipdu.sender = section.text("sender", None)
         if ipdu.sender is not None:
             self.node(section, "sender", ipdu.sender)
-            self.sending(ipdu, section)
+            self.sending(ipdu, section, ipdu.sender in self.tables)
         deadlines = section.table("receiver")
         receivers = section.names("receivers", list(dict.fromkeys(self.wanted_receivers(name, ipdu.sender) + list(deadlines))))
         for node in receivers:
@@ -124,7 +125,8 @@ class Source:
                 raise section.wrong("id", f"0x{ipdu.identifier:X} is the identifier of {other.name} too")
         self.ipdus[name] = ipdu
 
-    def sending(self, ipdu, section):
+    def sending(self, ipdu, section, has_table):
+        """The sender's part; a sender that gets no table needs no deadline."""
         ipdu.mode = section.one_of("transmission_mode", MODES, None)
         if ipdu.mode is None:
             ipdu.mode = PERIODIC if section.has("time_period_ms") else 0
@@ -136,7 +138,7 @@ class Source:
         ipdu.minimum_delay = section.ticks("minimum_delay_time_ms", self.tick)
         if ipdu.mode == PERIODIC and ipdu.minimum_delay:
             raise section.wrong("minimum_delay_time_ms", "has no meaning where transmission_mode is periodic; mixed has one")
-        ipdu.deadline = section.ticks("deadline_ms", self.tick, self.deadline, 1)
+        ipdu.deadline = section.ticks("deadline_ms", self.tick, self.deadline or (None if has_table else 1), 1)
 
     def receiving(self, section):
         """Deadline and first deadline of a receiver."""

@@ -1,11 +1,10 @@
 """How a raw value becomes one in units and back, as sums over doubles that read the same in C and in Rust."""
 from dataclasses import dataclass
 from fractions import Fraction
-from math import isfinite, lcm
+from math import lcm
 
 from . import bits
 from .records import MOST_BITS
-from .wrong import wrong
 
 EXACT = 2**50  # below this a sum of whole doubles is exact, and a value divided and multiplied again is less than half a step off
 
@@ -55,11 +54,3 @@ def steps(scaling, signed):
     if divisor < EXACT and abs(factor * divisor) < EXACT and furthest * divisor < EXACT:
         return Steps(factor * divisor, offset * divisor, divisor)
     return Steps(factor, offset)
-
-
-def check_doubles(board):
-    """Factors and offsets have to be numbers that a double can hold."""
-    for entry in board.objects:
-        for key, number in (("factor", entry.scaling.factor), ("offset", entry.scaling.offset)):
-            if not isfinite(float(number)) or (number and not float(number)):
-                raise wrong(board.network.file, f"message.{entry.name}.{key}", f"{number} is beyond the doubles that a header has it in")
