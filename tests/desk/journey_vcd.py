@@ -1,0 +1,130 @@
+"""A run's VCD, read back by a reader of its own, beside what the run says."""
+import re
+import sys
+from fractions import Fraction
+
+from desk import bits
+from desk.layer import played
+from desk.records import NONE, RECEIVE, SEND, WHOLE
+from desk.run import duration
+from desk.timeline import lanes
+from desk.vcd import vcd
+
+NAME = re.compile("[A-Za-z_][A-Za-z0-9_]*")
+MARKS = {RECEIVE: [("arrived", 1), ("receive_error", 4)], SEND: [("sent", 2), ("send_error", 8)]}
+
+
+class Read:
+    """`changes` has, by path and name, the values of each variable with their times, that of the beginning first."""
+
+    def __init__(self, text):
+        self.kinds, self.paths, self.changes, self.times = {}, {}, {}, []
+        head, body = text.split("$enddefinitions $end\n")
+        self.declarations(head)
+        for line in body.splitlines():
+            self.line(line)
+
+    def declarations(self, text):
+        path = []
+        for words in re.findall(r"\$(\w+) ?(.*?) ?\$end\n", text):
+            if words[0] == "scope":
+                kind, name = words[1].split(" ")
+                self.expect(kind == "module" and NAME.fullmatch(name), words)
+                path.append(name)
+            elif words[0] == "upscope":
+                path.pop()
+            elif words[0] == "var":
+                kind, size, code, name = words[1].split(" ")
+                self.expect({"wire": "1", "integer": "32", "real": "64"}[kind] == size and NAME.fullmatch(name), words)
+                key = (*path[1:], name)
+                self.expect(code not in self.paths and key not in self.changes, words)
+                self.kinds[code], self.paths[code], self.changes[key] = kind, key, []
+            else:
+                self.expect(words == ("timescale", "1 us"), words)
+        self.expect(not path, path)
+
+    @staticmethod
+    def expect(holds, what):
+        if not holds:
+            sys.exit(f"desk_journey.py: the VCD can't be read: {what}")
+
+    def line(self, line):
+        if line.startswith("#"):
+            self.times.append(int(line[1:]))
+            self.expect(self.times == [0] or self.times[-1] > self.times[-2], line)
+        elif line not in ("$dumpvars", "$end"):
+            value, code = line.split(" ") if line[0] in "br" else (line[0], line[1:])
+            kind = self.kinds[code]
+            self.expect((value[0] if value[0] in "br" else "") == {"wire": "", "integer": "b", "real": "r"}[kind], line)
+            known = None if value in ("x", "bx") else Fraction(value[1:]) if kind == "real" else int(value.lstrip("b"), 2)
+            self.changes[self.paths[code]].append((self.times[-1], known))
+
+    def values(self, *path):
+        return [value for _, value in self.changes[path]]
+
+    def pulses(self, *path):
+        """When it rises."""
+        self.expect(self.values(*path)[::2] == [0] * len(self.values(*path)[::2]) and set(self.values(*path)[1::2]) <= {1}, path)
+        return [time for time, value in self.changes[path] if value]
+
+
+def changes_of(values):
+    """Without those that are as the one before."""
+    return [value for place, value in enumerate(values) if place == 0 or value != values[place - 1]]
+
+
+def same(what, found, want):
+    if found != want:
+        sys.exit(f"desk_journey.py: the VCD's {what} is {found[:20]}, should be {want[:20]}")
+
+
+def object_values(entry, made, states):
+    """The raw values that are to be seen of an object, one after the other."""
+    if entry.record.kind == SEND and entry.record.ipdu != NONE:
+        return [entry.of.in_frame(frame) for step in made for number, frame in step.requests if number == entry.record.ipdu]
+    if entry.record.kind == SEND:
+        return [bits.meant(step.numbers[1] % WHOLE, entry.record.signed) for step in made if step.call == "send" and step.is_done and step.numbers[0] == entry.number]
+    if entry.record.depth:
+        return [step.value for step in made if step.call == "receive" and step.numbers[0] == entry.number and step.is_done]
+    return [state.values[entry.number] for state in states if entry.number in state.values]
+
+
+def check_ipdus(read, board, made, met):
+    length = Fraction(board.network.tick) * 1000
+    for lane in lanes(board, made, float(duration(made))):
+        name = board.ipdu_name(lane.number)
+        sends = lane.record.direction == SEND
+        for what in ("request", "confirm", "no_confirm", "deadline") if sends else ("indication", "error", "deadline"):
+            events = [int(event.at) for event in lane.events if event.what == what]
+            same(f"{name} {what}", [int(time // length) for time in read.pulses("ipdu", name, what)], events)
+            met[f"vcd {what}"] += len(events)
+        for wire, spans in (("open", lane.open), ("delay", lane.delays)) if sends else (("watched", lane.watched),):
+            rises = sum(span.begin not in {before.end for before in spans} for span in spans)
+            falls = rises - (bool(spans) and spans[-1].how == "end")
+            values = read.values("ipdu", name, wire)
+            same(f"{name} {wire}", [values[0], values.count(1), values.count(0) - 1], [0, rises, falls])
+            met[f"vcd {wire}"] += rises
+
+
+def check_vcd(board, script, met):
+    """One run; gives the VCD's length."""
+    made, states = played(board, script, "script")
+    text = vcd(board, made, states, board.network.title)
+    if text != vcd(board, *played(board, script, "script"), board.network.title):
+        sys.exit("desk_journey.py: the VCD of the same run is another")
+    read = Read(text)
+    check_ipdus(read, board, made, met)
+    for entry in board.objects:
+        raw = object_values(entry, made, states)
+        same(f"{entry.name} raw", read.values("message", entry.name, "raw"), [None] + [value % WHOLE for value in changes_of(raw)])
+        same(f"{entry.name} value", read.values("message", entry.name, "value"), [Fraction(entry.scaling.physical(value)) for value in changes_of(raw)])
+        for name, mark in MARKS[entry.record.kind]:
+            marks = changes_of([None if state.marks[entry.number] is None else int(bool(state.marks[entry.number] & mark)) for state in states])
+            same(f"{entry.name} {name}", read.values("message", entry.name, name), [None] * (marks[0] is not None) + marks)
+            met["vcd marks"] += len(marks)
+        met["vcd values"] += len(raw)
+    same("layer running", changes_of(read.values("layer", "running")), changes_of([0] + [int(step.call == "start") for step in made if step.is_done
+                                                                                       and step.call in ("start", "stop")]))
+    same("layer status", read.values("layer", "status"), [None] + changes_of([step.status for step in made]))
+    same("end", read.times[-1:], [int(duration(made) * Fraction(board.network.tick) * 1000)])
+    return len(text)
