@@ -20,7 +20,7 @@ from desk.layer import DRIVE
 from journey_boards import example_boards, random_network, van
 from journey_lanes import check_lanes, random_script
 from journey_sheet import check_sheet
-from journey_vcd import check_vcd
+from journey_vcd import check_crowded, check_names, check_vcd
 
 NETWORKS = 40
 # What must have been met, at least.
@@ -57,6 +57,11 @@ def bus(library, met):
     journey_bus.check_two_nodes(library, van(), 1000, met)
 
 
+def check_run(board, script, met):
+    journey_bus.check_run_log(board, script)
+    check_vcd(board, script, met)
+
+
 def check_met(met, least):
     few = {name: met[name] for name, count in least.items() if met[name] < count}
     if few:
@@ -76,14 +81,16 @@ def main():
             calls += check_lanes(library, board, 2000, met)
             check_sheet(library, board, 20, met)
         for board in van().boards():
-            check_vcd(board, random_script(library, board, 800), met)
+            check_run(board, random_script(library, board, 800), met)
+        check_crowded()
+        check_names()
         for _ in range(NETWORKS - 1):
             network = random_network()
             journey_bus.check_two_nodes(library, network, 200, met)
             for board in network.boards():
                 calls += check_lanes(library, board, 300, met)
                 check_sheet(library, board, 10, met)
-                check_vcd(board, random_script(library, board, 60), met)
+                check_run(board, random_script(library, board, 60), met)
     for least in (LANES, BUS, SHEETS, VCDS):
         check_met(met, least)
     print(f"desk_journey.py: {told}; {calls} calls in lanes, {met['carried']} frames between two nodes, {met['drains']} drains as the layer has them")

@@ -46,7 +46,7 @@ def van():
 def random_network():
     """Two nodes that send to each other."""
     ipdus = [random_ipdu(number) for number in range(random.randint(2, 6))]
-    messages = [message for ipdu in ipdus for message in random_messages(ipdu)]
+    messages = [message for ipdu in ipdus for message in random_messages(ipdu)] + [message for node in NODES for message in inside_messages(node)]
     return Network("Random", "random", Decimal(random.choice(TICKS)), NODES, [], ipdus, messages)
 
 
@@ -75,6 +75,13 @@ def random_messages(ipdu):
         taken |= set(bits.places(start, size, big))
         messages.append(random_message(f"{ipdu.name}_{len(messages)}", ipdu, start, size, big))
     return messages
+
+
+def inside_messages(node):
+    """One with no I-PDU, and two receivers of it inside the node, of which one has a queue."""
+    sent = Message(f"{node}_sent", node=node, kind=SEND, signed=random.random() < 0.5)
+    shown = [Message(f"{node}_shown{depth}", node=node, kind=RECEIVE, receives=sent, depth=depth, signed=sent.signed) for depth in (0, 3)]
+    return [sent, *shown]
 
 
 def random_message(name, ipdu, start, size, big):

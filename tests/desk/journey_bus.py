@@ -9,7 +9,8 @@ from desk import bits, candump, log_script, run_log
 from desk.layer import DRIVE, drive
 from desk.network import Board, Ipdu
 from desk.records import NONE, WHOLE
-from desk.run import CANNOT_BE_READ, steps
+from desk.run import CANNOT_BE_READ, duration, steps
+from desk.timeline import lanes
 from desk.wrong import Wrong
 from journey_boards import Player, passes, random_raw, van
 
@@ -25,7 +26,8 @@ def fail(text):
 def same(what, found, want):
     if found != want:
         different = next((n for n, (one, other) in enumerate(zip(found, want)) if one != other), min(len(found), len(want)))
-        fail(f"{what}: {len(found)} found, {len(want)} wanted; from the {different + 1}. on {found[different:different + 3]}, should be {want[different:different + 3]}")
+        part = slice(different, different + 3)
+        fail(f"{what}: {len(found)} found, {len(want)} wanted; number {different + 1} and on are {found[part]}, should be {want[part]}")
 
 
 def tick_of(frame, begin, tick):
@@ -100,13 +102,41 @@ def check_log(board, count, own, drain_ms, met):
     begin = marked[0][0].time
     log = [frame for frame in run_log.frames(board, made, begin) if board.ipdus[board.by_identifier(frame.identifier, frame.extended)].sender != board.node]
     same(f"the frames of a log that {board.node} receives", shown(log, begin, board.network.tick), shown(good, begin, board.network.tick))
-    drains = [before.status for before, step in zip(made, made[1:]) if step.call == "marks"]
-    queues = sum(entry.record.depth > 0 for entry in board.objects)
-    if set(drains) - {NO_VALUE} or len(drains) != summary.drains * queues or (drain_ms is not None) != bool(summary.drains):
-        fail(f"{summary.drains} drains of {queues} queues, of which the last receives answer {drains}; script {script!r}")
+    check_drains(board, made, summary.drains)
+    if (drain_ms is not None) != bool(summary.drains):
+        fail(f"{summary.drains} drains with one every {drain_ms} ms")
     met.update({f"log {name}": number for name, number in counts.items()})
     met["log drains"] += summary.drains
     met["log confirms answered 0"] += sum(step.call == "confirm" and step.is_done for step in made)
+
+
+def check_run_log(board, script):
+    """The log of a run has of each I-PDU the frames that its lane has, in the same ticks."""
+    made = run_of(board, script)
+    log = run_log.frames(board, made, interface="vcan0")
+    if [frame.time for frame in log] != sorted(frame.time for frame in log) or {frame.interface for frame in log} - {"vcan0"}:
+        fail(f"the times or interfaces of a run's log are {log}")
+    for lane, ipdu in zip(lanes(board, made, float(duration(made))), board.ipdus, strict=True):
+        events = [(int(event.at), ipdu.identifier, ipdu.extended, event.frame) for event in lane.events if event.what in ("request", "indication")]
+        own = [frame for frame in log if (frame.identifier, frame.extended) == (ipdu.identifier, ipdu.extended)]
+        same(f"the frames of {ipdu.name} in a run's log", shown(own, 1, board.network.tick), events)
+
+
+def check_drains(board, made, drains):
+    """Each drain of a queue has a receive for each value that may have come and found room, and one more, which answers 4."""
+    arrived, receives, count = {entry.number: 0 for entry in board.objects if entry.record.depth}, 0, 0
+    for before, step in zip(made, made[1:]):
+        if step.call == "indication":
+            arrived = {number: so_far + (board.objects[number].record.ipdu == step.numbers[0]) for number, so_far in arrived.items()}
+        receives += step.call == "receive"
+        if step.call == "marks":
+            number = step.numbers[0]
+            wanted = 1 + min(arrived[number], board.objects[number].record.depth)
+            if before.status != NO_VALUE or receives != wanted:
+                fail(f"line {step.line}: a drain of {board.object_name(number)} has {receives} receives, should be {wanted}; the last answers {before.status}")
+            arrived[number], receives, count = 0, 0, count + 1
+    if count != drains * len(arrived):
+        fail(f"{count} queues were drained in {drains} drains")
 
 
 def boards_with_others():
@@ -124,17 +154,21 @@ def check_earlier():
     ticks = ["tick\n" * count + "indication 2 1 00000000\n" for count in (2, 10)]
     if script != "start\n" + "".join(ticks) or (summary.earlier, summary.indicated) != (1, 2):
         fail(f"with a beginning between the frames: {summary}, script {script!r}")
+    same("the summary's lines", summary.lines(), ["12 ticks, 0 drains, 3 frames", "2 indicated", "1 before the beginning: left out"])
 
 
 def check_wrong_uses():
     """What a person can get wrong is said in one line; gives how many."""
     board = Board(van(), "van")
     file = board.network.file
-    gap = [candump.Frame(Decimal(time), "can0", 0x200, data=bytes(4)) for time in (0, 1436509052)]
+    gap, drained = ([candump.Frame(Decimal(time), "can0", 0x200, data=bytes(4)) for time in (0, end)] for end in (1436509052, 10000000))
     cases = [
         (lambda: log_script.script(board, [], drain_ms=250), "tick_ms: a drain every 250 ms is not one every 1, 2, 3 .. ticks of 100 ms"),
         (lambda: log_script.script(board, [], drain_ms=0), "tick_ms: a drain every 0 ms is not one every 1, 2, 3 .. ticks of 100 ms"),
-        (lambda: log_script.script(board, gap), "tick_ms: at 1436509052 s 14365090520 ticks and 0 drains have passed since 0 s, and a script has at most 200000000 lines"),
+        (lambda: log_script.script(board, gap),
+         "tick_ms: at 1436509052 s 14365090520 ticks and 0 drains have passed since 0 s, and a script has at most 200000000 lines"),
+        (lambda: log_script.script(board, drained, drain_ms=100),
+         "tick_ms: at 10000000 s 100000000 ticks and 100000000 drains have passed since 0 s, and a script has at most 200000000 lines"),
         (lambda: run_log.frames(board, run_of(board, "start\nsend 0 1\n")), "ipdu.Humidity: has no id, and a frame in a log has one"),
     ]
     board.ipdus[0].identifier = None

@@ -104,8 +104,9 @@ class Check:
         shown = {(number, "request") for number, _ in step.requests}
         if step.call == "indication" and step.is_done and step.numbers[1] == 1:
             shown.add((step.numbers[0], "indication"))
+        means = [(mark, what) for (call, mark), what in MEANS.items() if call == step.call and step.is_done]
         for number, objects in enumerate(self.carried):
-            shown |= {(number, what) for (call, mark), what in MEANS.items() if call == step.call and step.is_done and self.is_new(step, mark, objects, before, after)}
+            shown |= {(number, what) for mark, what in means if self.is_new(step, mark, objects, before, after)}
         found = {(number, what) for number, what in self.events[step.line] if self.carried[number] or what in ("request", "indication")}
         if found != shown:
             self.fail(step, f"the lanes have {sorted(found)}, and the layer shows {sorted(shown)}")

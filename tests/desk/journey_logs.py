@@ -32,6 +32,8 @@ WRONG = [
     ("(1.0) can0 123#00 Q\n", "line 1: is no line of a log, (SECONDS) INTERFACE FRAME: \"(1.0) can0 123#00 Q\""),
     ("(1.0) can0\n", "line 1: is no line of a log, (SECONDS) INTERFACE FRAME: \"(1.0) can0\""),
     ("(-1.0) can0 123#00\n", "line 1: is no line of a log, (SECONDS) INTERFACE FRAME: \"(-1.0) can0 123#00\""),
+    ("(123456789012345678901.0) can0 123#00\n", "line 1: is no line of a log, (SECONDS) INTERFACE FRAME: \"(123456789012345678901.0) can0 123#00\""),
+    ("x" * 10000, ("line 1: is no line of a log, (SECONDS) INTERFACE FRAME: \"" + "x" * 200)[:len("line 1: ") + 200]),
     ("(1) can0 123#00\n", "line 1: is no line of a log, (SECONDS) INTERFACE FRAME: \"(1) can0 123#00\""),
     ("can0  123   [2]  01 02\n", "line 1: is what candump shows on a screen; candump -l or -L writes a log"),
     ("\n (001.000000)  can0  RX - -  123   [2]  01 02\n", "line 2: is what candump shows on a screen; candump -l or -L writes a log"),

@@ -83,7 +83,8 @@ def check_sheet(library, board, drains, met):
     for end, lines in journey.drained:
         worked_out = [row.line() for row in sheet(board, made[:end])]
         if worked_out != lines:
-            sys.exit(f"desk_journey.py: after {end} calls the sheet is {worked_out}, the proved one {lines}; table {board.table.hex()}, script {script.splitlines()[:end]}")
+            sys.exit(f"desk_journey.py: after {end} calls the sheet is {worked_out}, the proved one {lines}; table {board.table.hex()}, "
+                     f"script {script.splitlines()[:end]}")
         met["drains"] += 1
     met["overflows"] += sum(step.call == "receive" and step.status == LIMIT for step in made)
     met["errors"] += sum(row.errors for row in sheet(board, made))

@@ -1,14 +1,17 @@
 """A run's VCD, read back by a reader of its own, beside what the run says."""
 import re
 import sys
+from decimal import Decimal
 from fractions import Fraction
 
 from desk import bits
 from desk.layer import played
+from desk.network import Board
 from desk.records import NONE, RECEIVE, SEND, WHOLE
 from desk.run import duration
 from desk.timeline import lanes
 from desk.vcd import vcd
+from journey_boards import van
 
 NAME = re.compile("[A-Za-z_][A-Za-z0-9_]*")
 MARKS = {RECEIVE: [("arrived", 1), ("receive_error", 4)], SEND: [("sent", 2), ("send_error", 8)]}
@@ -83,7 +86,8 @@ def object_values(entry, made, states):
     if entry.record.kind == SEND and entry.record.ipdu != NONE:
         return [entry.of.in_frame(frame) for step in made for number, frame in step.requests if number == entry.record.ipdu]
     if entry.record.kind == SEND:
-        return [bits.meant(step.numbers[1] % WHOLE, entry.record.signed) for step in made if step.call == "send" and step.is_done and step.numbers[0] == entry.number]
+        sends = [step.numbers for step in made if step.call == "send" and step.is_done]
+        return [bits.meant(value % WHOLE, entry.record.signed) for number, value in sends if number == entry.number]
     if entry.record.depth:
         return [step.value for step in made if step.call == "receive" and step.numbers[0] == entry.number and step.is_done]
     return [state.values[entry.number] for state in states if entry.number in state.values]
@@ -106,8 +110,28 @@ def check_ipdus(read, board, made, met):
             met[f"vcd {wire}"] += rises
 
 
+def check_crowded():
+    """More calls than microseconds: each is still to be seen."""
+    board = Board(van(), "van")
+    calls, board.network.tick = 500, Decimal("0.001")
+    script = "start\n" + "indication 2 0\n" * calls + "tick\n" * calls
+    read = Read(vcd(board, *played(board, script, "script"), ""))
+    same("pulses of a crowded run", [len(read.pulses("ipdu", "Case", "error"))], [calls])
+
+
+def check_names():
+    """Names that a VCD can't have are changed, and stay apart."""
+    network = van()
+    for ipdu, name in zip(network.ipdus, ("a.b", "a_b", "a b")):
+        ipdu.name = name
+    board = Board(network, "van")
+    text = vcd(board, *played(board, "start\n", "script"), "9 lives $end")
+    same("names", re.findall(r"\$scope module (\w*) \$end", text)[:6], ["_9_lives__end", "layer", "ipdu", "a_b", "a_b_2", "a_b_3"])
+    Read(text)
+
+
 def check_vcd(board, script, met):
-    """One run; gives the VCD's length."""
+    """One run."""
     made, states = played(board, script, "script")
     text = vcd(board, made, states, board.network.title)
     if text != vcd(board, *played(board, script, "script"), board.network.title):
@@ -127,4 +151,3 @@ def check_vcd(board, script, met):
                                                                                        and step.call in ("start", "stop")]))
     same("layer status", read.values("layer", "status"), [None] + changes_of([step.status for step in made]))
     same("end", read.times[-1:], [int(duration(made) * Fraction(board.network.tick) * 1000)])
-    return len(text)

@@ -9,8 +9,9 @@ DATA, REMOTE, ERROR, FD, XL = KINDS = "data", "remote", "error", "fd", "xl"
 MOST_STANDARD, MOST_EXTENDED, ERROR_FLAG = 0x7FF, 0x1FFFFFFF, 0x20000000
 MOST_BYTES = {DATA: 8, ERROR: 8, REMOTE: 0, FD: 64, XL: 2048}
 SECONDS, DECIMALS = 10, 6  # digits of a time, before and behind its point
+LONGEST_REASON = 200  # a file that is no log may have long lines
 HEX = "[0-9A-Fa-f]"
-LINE = re.compile(r"\(([0-9]+\.[0-9]+)\)\s+(\S+)\s+(\S+)(?:\s+([RT]))?")
+LINE = re.compile(r"\(([0-9]{1,20}\.[0-9]{1,9})\)\s+(\S+)\s+(\S+)(?:\s+([RT]))?")
 SCREEN = re.compile(r"(?:\(\S+\)\s+)?\S+\s+(?:(?:TX|RX)\s+.{3}\s+)?" + HEX + r"+\s+\[[0-9]+\].*")
 BYTES = rf"(?P<data>(?:{HEX}{{2}}(?:\.?{HEX}{{2}})*)?)"
 # What stands behind the # of the identifier. `more` is what a frame has beside its bytes.
@@ -48,7 +49,7 @@ def read(path):
             if last is not None and frame.time < last:
                 raise ValueError(f"its time is {frame.time}, and the frame before has {last}")
         except ValueError as reason:
-            raise wrong(path, f"line {number}", str(reason)) from None
+            raise wrong(path, f"line {number}", str(reason)[:LONGEST_REASON]) from None
         last = frame.time
         frames.append(frame)
     return frames

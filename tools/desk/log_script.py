@@ -55,8 +55,7 @@ class Maker:
 
     def __init__(self, board, begin, own, drain_ms):
         self.board, self.begin, self.own = board, begin, own
-        self.tick = Fraction(board.network.tick)
-        self.drain_ticks = None if drain_ms is None else whole_ticks(board, drain_ms)
+        self.drain_ticks = None if drain_ms is None else ticks_of_drain(board, drain_ms)
         self.numbers = {(ipdu.identifier, ipdu.extended): number for number, ipdu in enumerate(board.ipdus) if ipdu.identifier is not None}
         self.known = {(ipdu.identifier, ipdu.extended) for ipdu in board.network.ipdus}
         self.queued = {entry.number: entry.record.ipdu for entry in board.objects if entry.record.kind == RECEIVE and entry.record.depth}
@@ -78,11 +77,11 @@ class Maker:
 
     def time_passes(self, frame):
         """The ticks up to a frame, with the drains that fall between."""
-        until = (Fraction(frame.time) - Fraction(self.begin)) * MILLISECONDS // self.tick
+        until = whole_ticks(self.begin, frame.time, self.board.network.tick)
         drains = until // self.drain_ticks if self.drain_ticks else 0
         if until + drains * len(self.queued) * DRAIN_LINES > MOST_LINES:
-            raise wrong(self.board.network.file, "tick_ms", f"at {frame.time} s {until} ticks and {drains} drains have passed since {self.begin} s, and a script has "
-                        f"at most {MOST_LINES} lines")
+            passed = f"at {frame.time} s {until} ticks and {drains} drains have passed since {self.begin} s"
+            raise wrong(self.board.network.file, "tick_ms", f"{passed}, and a script has at most {MOST_LINES} lines")
         while self.summary.ticks < until:
             step = until - self.summary.ticks
             if self.drain_ticks:
@@ -118,10 +117,16 @@ class Maker:
         return "".join(line + "\n" for line in lines)
 
 
-def whole_ticks(board, drain_ms):
-    """The ticks of a time in ms."""
-    tick = Fraction(board.network.tick)
-    ticks = Fraction(drain_ms) / tick
+def whole_ticks(begin, end, tick):
+    """How many ticks of `tick` ms have passed between two times in seconds, exactly."""
+    (begin_top, begin_bottom), (end_top, end_bottom), (tick_top, tick_bottom) = (number.as_integer_ratio() for number in (begin, end, tick))
+    passed = end_top * begin_bottom - begin_top * end_bottom
+    return passed * MILLISECONDS * tick_bottom // (begin_bottom * end_bottom * tick_top)
+
+
+def ticks_of_drain(board, drain_ms):
+    """From one drain to the next."""
+    ticks = Fraction(drain_ms) / Fraction(board.network.tick)
     if ticks.denominator != 1 or ticks < 1:
         raise wrong(board.network.file, "tick_ms", f"a drain every {drain_ms} ms is not one every 1, 2, 3 .. ticks of {board.network.milliseconds(1)} ms")
     return int(ticks)

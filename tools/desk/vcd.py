@@ -1,7 +1,7 @@
 """A run as a Value Change Dump (IEEE 1364), which GTKWave, PulseView and others show as waves. The same run gives the same bytes.
 
-What happens is a pulse of a microsecond, since not every viewer shows the type `event`. Two calls are at least two microseconds apart, so that each pulse can be
-seen: a tick with more calls than it has room for pushes those behind it on."""
+What happens is a pulse of a microsecond, since not every viewer shows the type `event`. Two calls are at least two microseconds apart, so that each pulse can
+be seen: a tick with more calls than it has room for pushes those behind it on."""
 import re
 from dataclasses import dataclass, field
 
@@ -137,41 +137,46 @@ def draw_ipdu(dump, scope, lane, times):
             dump.set(time, wire, level)
 
 
-def shown_value(entry, step, state):
-    """What is to be seen of an object at a step, or None: of a send object the value in its frames, or where it has no I-PDU the one that is sent; of a queue
-    what a receive gives; else what the layer holds."""
-    if entry.record.kind == RECEIVE and not entry.record.depth:
-        return state.values.get(entry.number)
-    own = step.is_done and step.numbers[:1] == (entry.number,)
-    if entry.record.kind == RECEIVE:
-        return step.value if own and step.call == "receive" else None
-    if entry.record.ipdu == NONE:
-        return bits.meant(step.numbers[1] % WHOLE, entry.record.signed) if own and step.call == "send" else None
-    frames = [frame for number, frame in step.requests if number == entry.record.ipdu]
-    return entry.of.in_frame(frames[0]) if frames else None
+def shown_values(entry, made, news):
+    """Times and raw values that are to be seen of an object: of a send object those in its frames, or where it has no I-PDU those that are sent; of a queue
+    what receives give; else what the layer holds."""
+    record, number = entry.record, entry.number
+    if record.kind == SEND and record.ipdu != NONE:
+        return [(step.at, entry.of.in_frame(frame)) for step in made for ipdu, frame in step.requests if ipdu == record.ipdu]
+    if record.kind == SEND:
+        sends = [step for step in made if step.call == "send" and step.is_done and step.numbers[0] == number]
+        return [(step.at, bits.meant(step.numbers[1] % WHOLE, record.signed)) for step in sends]
+    if record.depth:
+        return [(step.at, step.value) for step in made if step.call == "receive" and step.is_done and step.numbers[0] == number]
+    return [(at, state.values[number]) for at, state in news if number in state.values]
 
 
-def draw_message(dump, scope, entry, made, states, times):
+def draw_message(dump, scope, entry, made, news, times):
     value, raw = dump.signal(scope, "real", "value"), dump.signal(scope, "integer", "raw")
-    marks = [(dump.signal(scope, "wire", name), mark) for name, mark in MARKS[entry.record.kind].items()]
-    for step, state in zip(made, states, strict=True):
-        shown = shown_value(entry, step, state)
-        if shown is not None:
-            dump.set(times[step.at], raw, shown)
-            dump.set(times[step.at], value, entry.scaling.number(shown))
-        word = state.marks[entry.number]
-        for signal, mark in marks:
-            dump.set(times[step.at], signal, None if word is None else bool(word & mark))
+    for at, shown in shown_values(entry, made, news):
+        if shown != raw.value:
+            dump.set(times[at], raw, shown)
+            dump.set(times[at], value, entry.scaling.number(shown))
+    for name, mark in MARKS[entry.record.kind].items():
+        wire = dump.signal(scope, "wire", name)
+        for at, state in news:
+            word = state.marks[entry.number]
+            dump.set(times[at], wire, None if word is None else bool(word & mark))
+
+
+def new_states(made, states):
+    """The states that were asked for anew, with their times."""
+    return [(step.at, state) for step, state, before in zip(made, states, [None, *states]) if state is not before]
 
 
 def vcd(board, made, states, title):
     """The text for a run of a board, as layer.played gives it."""
     dump, times = Dump(title), step_times(made, board.network.tick)
-    end = float(duration(made))
+    end, news = float(duration(made)), new_states(made, states)
     draw_layer(dump, made, times)
     ipdus, messages = dump.top.scope("ipdu"), dump.top.scope("message")
     for lane in lanes(board, made, end):
         draw_ipdu(dump, ipdus.scope(board.ipdu_name(lane.number)), lane, times)
     for entry in board.objects:
-        draw_message(dump, messages.scope(entry.name), entry, made, states, times)
+        draw_message(dump, messages.scope(entry.name), entry, made, news, times)
     return dump.text(times[end])
