@@ -17,14 +17,12 @@ sys.path[:0] = [os.path.join(TOP, "tools"), os.path.join(TOP, "tests", "desk")]
 import archive
 import random_tables
 from desk import source
-from desk.bits import greatest, least, meant
 from desk.explain import explain
-from desk.records import (HEADER, HEADER_SIZE, MOST_DEPTH, MOST_DEPTHS, MOST_IPDUS, MOST_OBJECTS, NONE, OBJECT_SIZE, RECEIVE, SEND, ipdu_records,
-                          object_records)
-from desk.rules import (DEPTH_SUM, FIRST_OBJECT, HEADER_PLACE, HEADER_RULES, IPDU_RULES, OBJECT_RULES, WHOLE_HEADER, first_fault, record_at,
-                        record_size)
+from desk.records import HEADER, HEADER_SIZE, IPDU_SIZE, MOST_IPDUS, MOST_OBJECTS, OBJECT_SIZE, RECEIVE, ObjectRecord, table_bytes
+from desk.rules import (DEPTH, DEPTH_SUM, FIRST_OBJECT, HEADER_PLACE, HEADER_RULES, IPDU_RULES, OBJECT_RULES, WHOLE_HEADER, first_fault,
+                        record_at, record_size)
 from desk.show import show, show_board
-from desk.wrong import Wrong, read_bytes
+from desk.wrong import Wrong, read_bytes, write
 
 DAMAGED, RIGHT_TABLES, SECONDS = 12000, 420, 2
 BYTES = re.compile(r"\bbytes? (\d+)(?: (?:and|to) (\d+))?")
@@ -77,6 +75,12 @@ def some_value():
 
 def one_byte(table):
     return changed(table, random.randrange(len(table)), some_value())
+
+
+def deciding_byte(table):
+    """One of the first bytes of an I-PDU record or of either half of an object record."""
+    at = random.randrange(HEADER_SIZE, len(table), IPDU_SIZE) + random.randrange(9)
+    return changed(table, at, some_value())
 
 
 def header_byte(table):
@@ -173,7 +177,7 @@ def check_remedies(refused, count):
     met = Counter()
     while met["some"] + met["none"] < count:
         right = random_tables.right_table(random, refused, random.randrange(1, 3), random.randrange(1, 3))
-        table = random.choice([one_byte, DAMAGES["two bytes"], header_byte])(right)
+        table = random.choice([one_byte, deciding_byte, deciding_byte, DAMAGES["two bytes"], header_byte])(right)
         if refused(table) is None:
             continue
         want = {}
@@ -188,15 +192,18 @@ def check_remedies(refused, count):
 
 
 def check_depths(refused):
-    """The sum of depths: any depth that can be lowered enough is a remedy, and those before the named object are in its lines."""
-    full, at = random_tables.largest(), record_at(random_tables.largest(), FIRST_OBJECT) + 7
-    table = changed(full, at + 2 * OBJECT_SIZE, 11)
-    lines = explain(table)
-    depths = {byte: {value for value in range(256) if refused(changed(table, byte, value)) is None} for byte in range(at, len(table), OBJECT_SIZE)}
-    if remedies_in(lines) != {byte: values for byte, values in depths.items() if values} or len(remedies_in(lines)) != 64:
-        fail(f"the sum of depths is explained as {lines}", table)
-    if not set(range(at, len(table), 2 * OBJECT_SIZE)) <= named_bytes(lines[1:lines.index("one of these bytes alone would put the table right:")]):
-        fail(f"not all depths are named in {lines}", table)
+    """The sum of depths: any depth that can be lowered enough is a remedy, and those up to the named object are in its lines."""
+    full, alone = random_tables.largest(), table_bytes([], [ObjectRecord(RECEIVE, depth=16)] * 32 + [ObjectRecord(RECEIVE, depth=1)])
+    for table, count in [(changed(full, record_at(full, FIRST_OBJECT) + 2 * OBJECT_SIZE + DEPTH.at, 11), 64), (alone, 33)]:
+        depths = range(record_at(table, FIRST_OBJECT) + DEPTH.at, len(table), OBJECT_SIZE)
+        lines, want = explain(table), {}
+        for byte in depths:
+            values = {value for value in range(256) if refused(changed(table, byte, value)) is None}
+            want |= {byte: values} if values else {}
+        if remedies_in(lines) != want or len(want) != count:
+            fail(f"the sum of depths is explained as {lines}", table)
+        if {byte for byte in depths if table[byte]} != set(depths) & named_bytes(lines[1:-count]):
+            fail(f"not all depths are named in {lines}", table)
 
 
 def check_header(van):
@@ -217,6 +224,7 @@ def check_header(van):
          "offset of the object records 48 and length of the table 336; and the file 336 bytes long"),
         (changed(changed(van, 0, 2), 2, 9), "by the 384 bytes of the file it may be: number of I-PDUs 3, number of objects 10, offset of the I-PDU records 16, "
          "offset of the object records 64 and length of the table 384"),
+        (changed(changed(van, 0, 2), 12, 1), "no number of the header alone explains it"),
         (changed(van, 0, 2)[:-1], "no table has 383 bytes: there are 16 for the header, 16 for each of 0 to 32 I-PDUs and 32 for each of 0 to 128 objects"),
     ]:
         if want not in explain(table):
@@ -251,7 +259,7 @@ def check_lines(van, request):
     ]:
         if explain(table, *names) != want:
             fail(f"explain says {explain(table, *names)}", table)
-    for start, want in [(7, "; from bit 7 up to the end of byte 0 there is room for 1 bits of 10"), (200, "; bit 200 is behind the last one, 31")]:
+    for start, want in [(7, "; from bit 7 up to the end of byte 0 there is room for 1 of its 10 bits"), (200, "; bit 200 is behind the last one, 31")]:
         if not explain(changed(van, 99, start))[1].endswith(want):
             fail(f"the failed rule does not end in {want!r}: {explain(changed(van, 99, start))}", changed(van, 99, start))
 
@@ -268,52 +276,14 @@ def check_time():
 
 # show
 
-def compiled(text, folder):
+def compiled(text, folder, table):
+    """The table that the text of another one gives."""
     path = os.path.join(folder, "shown.toml")
-    with open(path, "w") as file:
-        file.write(text)
-    return source.load(path).boards()[0].table
-
-
-KINDS = {f"{count} I-PDUs" for count in (0, MOST_IPDUS)} | {f"{count} objects" for count in (0, MOST_OBJECTS)} | {f"depths of {MOST_DEPTHS}"}
-KINDS |= {f"mode {mode}" for mode in range(3)} | {f"received, deadlines {deadline}, {first}" for deadline, first in [(False, False), (True, False), (True, True)]}
-KINDS |= {"an I-PDU with no object", "another time offset than the period", "a sent minimum delay"}
-KINDS |= {f"filter {number} of kind {kind}" for number in range(15) for kind in (SEND, RECEIVE)} | {f"order {order}" for order in range(4)}
-KINDS |= {f"depth {depth}" for depth in range(MOST_DEPTH + 1)} | {"pending", "inside, before its sender", "inside, after its sender", "inside, other sign"}
-KINDS |= {f"alone, kind {kind}, order {order}" for kind in (SEND, RECEIVE) for order in (0, 2)}
-KINDS |= {f"{what} beyond its bits, {sign}" for what in ("initial value", "constant") for sign in ("signed", "unsigned")}
-
-
-def ipdu_kinds(ipdus, objects):
-    for number, record in enumerate(ipdus):
-        if not any(entry.ipdu == number for entry in objects):
-            yield "an I-PDU with no object"
-        if record.direction == RECEIVE:
-            yield f"received, deadlines {record.deadline > 0}, {record.first_deadline > 0}"
-            continue
-        yield f"mode {record.mode}"
-        yield "a sent minimum delay" if record.minimum_delay else ""
-        yield "another time offset than the period" if record.offset != record.period else ""
-
-
-def object_kinds(objects):
-    for number, record in enumerate(objects):
-        yield from (f"filter {record.filter} of kind {record.kind}", f"order {record.order}", f"depth {record.depth}", "pending" if record.transfer else "")
-        if record.sender != NONE:
-            yield f"inside, {'before' if number < record.sender else 'after'} its sender"
-            yield "inside, other sign" if record.signed != objects[record.sender].signed else ""
-        elif record.ipdu == NONE:
-            yield f"alone, kind {record.kind}, order {record.order}"
-        for what, word in (("initial value", record.initial), ("constant", record.first), ("constant", record.second)):
-            if not least(record.bits, record.signed) <= meant(word, record.signed) <= greatest(record.bits, record.signed):
-                yield f"{what} beyond its bits, {'signed' if record.signed else 'unsigned'}"
-
-
-def kinds_of(table):
-    """What kinds of records a right table has."""
-    ipdus, objects = ipdu_records(table), object_records(table)
-    counts = {f"{len(ipdus)} I-PDUs", f"{len(objects)} objects", f"depths of {sum(record.depth for record in objects)}"}
-    return counts | set(ipdu_kinds(ipdus, objects)) | set(object_kinds(objects))
+    write(path, text)
+    try:
+        return source.load(path).boards()[0].table
+    except Wrong as error:
+        return fail(f"what show gives is refused: {error}", table)
 
 
 def shown_tables(refused):
@@ -330,11 +300,11 @@ def check_shown(refused, tables, folder):
     for table in [*tables, *shown_tables(refused)]:
         if refused(table) is not None:
             fail("a table to be shown is wrong", table)
-        if compiled(show(table, tick_ms=random.choice([1, 5, 100, "0.5", "0.1"])), folder) != table:
+        if compiled(show(table, tick_ms=random.choice([1, 5, 100, "0.5", "0.1"])), folder, table) != table:
             fail("what show gives compiles to another table", table)
-        met.update(kinds_of(table))
+        met.update(random_tables.kinds_of(table))
         count += 1
-    if missing := KINDS - set(met):
+    if missing := random_tables.KINDS - set(met):
         sys.exit(f"desk_tables.py: no table that was shown had {sorted(missing)}")
     return count
 
@@ -383,7 +353,8 @@ def main():
             return archive.check(library, table)
 
         tables = {**examples, "the largest": random_tables.largest()}
-        judged = check_agreement(refused, list(tables.values()))
+        drawn = [random_tables.right_table(random, refused, random.randint(1, 8), random.randint(1, 24)) for _ in range(20)]
+        judged = check_agreement(refused, [*tables.values(), *drawn])
         explained, elsewhere = check_single_faults(refused, tables, ["van.table", "request.table"])
         check_remedies(refused, 60)
         check_depths(refused)

@@ -1,8 +1,8 @@
-"""Random right tables for tests: records are drawn, and those that the proved check refuses are drawn again."""
+"""Random right tables for tests: records are drawn, and those that the proved check refuses are drawn again; and what kinds of records a table has."""
+from desk.bits import greatest, least, meant
 from desk.records import (HEADER_SIZE, IPDU_SIZE, MOST_BITS, MOST_DEPTH, MOST_DEPTHS, MOST_IPDUS, MOST_OBJECTS, NONE, OBJECT_SIZE, RECEIVE, SEND, WHOLE,
                           IpduRecord, ObjectRecord, ipdu_records, object_records, table_bytes)
-
-FIRST_OBJECT = 256
+from desk.rules import FIRST_OBJECT
 
 
 def largest():
@@ -72,3 +72,46 @@ def with_full_queues(table):
             more = min(left, MOST_DEPTH - record.depth)
             record.depth, left = record.depth + more, left - more
     return table_bytes(ipdu_records(table), objects)
+
+
+# what kinds of records there are
+
+KINDS = {f"{count} I-PDUs" for count in (0, MOST_IPDUS)} | {f"{count} objects" for count in (0, MOST_OBJECTS)} | {f"depths of {MOST_DEPTHS}"}
+KINDS |= {f"mode {mode}" for mode in range(3)} | {f"received, deadlines {both}" for both in ("False, False", "True, False", "True, True")}
+KINDS |= {"an I-PDU with no object", "another time offset than the period", "a sent minimum delay"}
+KINDS |= {f"filter {number} of kind {kind}" for number in range(15) for kind in (SEND, RECEIVE)} | {f"order {order}" for order in range(4)}
+KINDS |= {f"depth {depth}" for depth in range(MOST_DEPTH + 1)} | {"pending", "inside, before its sender", "inside, after its sender", "inside, other sign"}
+KINDS |= {f"alone, kind {kind}, order {order}" for kind in (SEND, RECEIVE) for order in (0, 2)}
+KINDS |= {f"{what} beyond its bits, {sign}" for what in ("initial value", "constant") for sign in ("signed", "unsigned")}
+
+
+def ipdu_kinds(ipdus, objects):
+    for number, record in enumerate(ipdus):
+        if not any(entry.ipdu == number for entry in objects):
+            yield "an I-PDU with no object"
+        if record.direction == RECEIVE:
+            yield f"received, deadlines {record.deadline > 0}, {record.first_deadline > 0}"
+            continue
+        yield f"mode {record.mode}"
+        yield "a sent minimum delay" if record.minimum_delay else ""
+        yield "another time offset than the period" if record.offset != record.period else ""
+
+
+def object_kinds(objects):
+    for number, record in enumerate(objects):
+        yield from (f"filter {record.filter} of kind {record.kind}", f"order {record.order}", f"depth {record.depth}", "pending" if record.transfer else "")
+        if record.sender != NONE:
+            yield f"inside, {'before' if number < record.sender else 'after'} its sender"
+            yield "inside, other sign" if record.signed != objects[record.sender].signed else ""
+        elif record.ipdu == NONE:
+            yield f"alone, kind {record.kind}, order {record.order}"
+        for what, word in (("initial value", record.initial), ("constant", record.first), ("constant", record.second)):
+            if not least(record.bits, record.signed) <= meant(word, record.signed) <= greatest(record.bits, record.signed):
+                yield f"{what} beyond its bits, {'signed' if record.signed else 'unsigned'}"
+
+
+def kinds_of(table):
+    """What kinds of records a right table has."""
+    ipdus, objects = ipdu_records(table), object_records(table)
+    counts = {f"{len(ipdus)} I-PDUs", f"{len(objects)} objects", f"depths of {sum(record.depth for record in objects)}"}
+    return counts | set(ipdu_kinds(ipdus, objects)) | set(object_kinds(objects))

@@ -1,7 +1,7 @@
 """What is wrong with a table, for the person who wrote it: the record that the proved check names, each failed rule, and what would put it right."""
 from .records import HEADER, HEADER_SIZE, IPDU_SIZE, MOST_IPDUS, MOST_OBJECTS, OBJECT_SIZE
 from .remedies import fitting_headers, header_bytes, remedies
-from .rules import HEADER_PLACE, faults, first_fault, may_be_counts, record_at, record_size
+from .rules import HEADER_PLACE, faults, first_fault, are_counts, record_at, record_size
 from .wording import Names, bytes_words, fault_lines, joined, remedy_line
 
 RESERVED_FROM = HEADER[-1].at + HEADER[-1].size
@@ -50,7 +50,7 @@ def header_lines(table, of):
 
 def header_bytes_or_none(of):
     """The header that the counts demand, where they are possible ones."""
-    return header_bytes(of["ipdus"], of["objects"]) if may_be_counts(of) else None
+    return header_bytes(of["ipdus"], of["objects"]) if are_counts(of) else None
 
 
 def differing(table, header):

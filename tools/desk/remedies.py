@@ -1,7 +1,7 @@
 """What one byte alone would put right: the bytes of a wrong table, each with the values after which the whole table is right."""
 from typing import NamedTuple
 
-from .records import HEADER, HEADER_SIZE, IPDU_SIZE, MOST_DEPTHS, MOST_IPDUS, MOST_OBJECTS, OBJECT_SIZE, packed
+from .records import HEADER, HEADER_SIZE, MOST_DEPTHS, MOST_IPDUS, MOST_OBJECTS, OBJECT_SIZE, packed
 from .rules import (DEPTH, FIRST_OBJECT, HEADER_FIELDS, HEADER_PLACE, IPDU_FIELDS, IPDU_RULES, OBJECT_FIELDS, OBJECT_RULES, Part, around, beyond,
                     first_fault, length_of, object_values, objects_at, record_at, record_size, values)
 

@@ -39,7 +39,7 @@ def between(least, most, *because):
     return range(least, most + 1), because
 
 
-def constant(least, most):
+def always(least, most):
     return lambda of: between(least, most)
 
 
@@ -52,7 +52,7 @@ def zero(*because):
 
 
 def reserved(fields):
-    return [Rule(name, (), constant(0, 0)) for name in fields if name.startswith("reserved")]
+    return [Rule(name, (), always(0, 0)) for name in fields if name.startswith("reserved")]
 
 
 # the header
@@ -69,16 +69,16 @@ def just(value, *because):
     return between(value, value, *because)
 
 
-def may_be_counts(of):
+def are_counts(of):
     return of["ipdus"] <= MOST_IPDUS and of["objects"] <= MOST_OBJECTS
 
 
 HEADER_RULES = [
-    Rule("ipdus", (), constant(0, MOST_IPDUS)),
-    Rule("objects", (), constant(0, MOST_OBJECTS)),
-    Rule("ipdus_at", (), constant(HEADER_SIZE, HEADER_SIZE)),
+    Rule("ipdus", (), always(0, MOST_IPDUS)),
+    Rule("objects", (), always(0, MOST_OBJECTS)),
+    Rule("ipdus_at", (), always(HEADER_SIZE, HEADER_SIZE)),
     Rule("objects_at", ("ipdus",), lambda of: just(objects_at(of["ipdus"]), "ipdus") if of["ipdus"] <= MOST_IPDUS else anything()),
-    Rule("length", ("ipdus", "objects"), lambda of: just(length_of(of["ipdus"], of["objects"]), "ipdus", "objects") if may_be_counts(of) else anything()),
+    Rule("length", ("ipdus", "objects"), lambda of: just(length_of(of["ipdus"], of["objects"]), "ipdus", "objects") if are_counts(of) else anything()),
     Rule("length", ("file",), lambda of: just(of["file"], "file")),
     *reserved(HEADER_FIELDS),
 ]
@@ -109,8 +109,8 @@ def first_deadline(of):
 
 
 IPDU_RULES = [
-    Rule("direction", (), constant(SEND, RECEIVE)),
-    Rule("length", (), constant(1, MOST_LENGTH)),
+    Rule("direction", (), always(SEND, RECEIVE)),
+    Rule("length", (), always(1, MOST_LENGTH)),
     Rule("mode", ("direction",), lambda of: zero("direction") if of["direction"] == RECEIVE else between(DIRECT, MIXED)),
     Rule("period", ("direction", "mode"), in_period),
     Rule("offset", ("direction", "mode"), in_period),
@@ -169,7 +169,7 @@ def second_constant(of):
 
 
 OBJECT_RULES = [
-    Rule("kind", (), constant(SEND, RECEIVE)),
+    Rule("kind", (), always(SEND, RECEIVE)),
     Rule("ipdu", ("kind", "ipdu.direction"), ipdu_of_object),
     Rule("sender", ("kind", "ipdu", "sender.kind"), sending_object),
     Rule("bits", ("ipdu",), lambda of: just(MOST_BITS, "ipdu") if of["ipdu"] == NONE else between(1, MOST_BITS)),
@@ -177,7 +177,7 @@ OBJECT_RULES = [
     Rule("order", ("ipdu",), lambda of: (frozenset([0, SIGNED]), ("ipdu",)) if of["ipdu"] == NONE else between(0, BIG + SIGNED)),
     Rule("transfer", ("kind",), lambda of: zero("kind") if of["kind"] == RECEIVE else between(TRIGGERED, PENDING)),
     Rule("depth", ("kind",), lambda of: zero("kind") if of["kind"] == SEND else between(0, MOST_DEPTH)),
-    Rule("filter", (), constant(0, len(FILTERS) - 1)),
+    Rule("filter", (), always(0, len(FILTERS) - 1)),
     Rule("first", ("filter",), first_constant),
     Rule("second", ("filter", "first"), second_constant),
     *reserved(OBJECT_FIELDS),

@@ -90,13 +90,13 @@ def fault_lines(table, fault, names):
 def reach(fault):
     """Where the bits of an object would lie that do not fit."""
     of = fault.of
-    if fault.rule.field != "start" or of.get("ipdu.length") is None:
+    if fault.rule.field != "start" or of["ipdu.length"] is None:
         return ""
     last = 8 * of["ipdu.length"] - 1
     if of["start"] > last:
         return f"; bit {of['start']} is behind the last one, {last}"
     if of["order"] % 2 == BIG:
-        return f"; from bit {of['start']} up to the end of byte 0 there is room for {bits.turned(of['start']) + 1} bits of {of['bits']}"
+        return f"; from bit {of['start']} up to the end of byte 0 there is room for {bits.turned(of['start']) + 1} of its {of['bits']} bits"
     return f"; it would reach bit {of['start'] + of['bits'] - 1}, and the last one is {last}"
 
 
