@@ -1,11 +1,11 @@
 """What is wrong with a table, for the person who wrote it: the record that the proved check names, each failed rule, and what would put it right."""
 from .records import HEADER, HEADER_SIZE, IPDU_SIZE, MOST_IPDUS, MOST_OBJECTS, OBJECT_SIZE
 from .remedies import fitting_headers, header_bytes, remedies
-from .rules import HEADER_PLACE, faults, first_fault, are_counts, record_at, record_size
+from .rules import HEADER_PLACE, are_counts, faults, first_fault, record_at, record_size
 from .wording import Names, bytes_words, fault_lines, joined, remedy_line
 
 RESERVED_FROM = HEADER[-1].at + HEADER[-1].size
-MOST_NAMED = 8  # so many other wrong records are named
+MOST_NAMED = 8  # so many other wrong records, or headers that would fit, are named
 
 
 def explain(table, ipdu_name=None, object_name=None):
@@ -18,11 +18,14 @@ def explain(table, ipdu_name=None, object_name=None):
     lines += ["  " + line for fault in found if fault.place == place for line in fault_lines(table, fault, names)]
     if place == HEADER_PLACE:
         lines += header_lines(table, found[0].of)
-    others = list(dict.fromkeys(fault.place for fault in found if fault.place != place))
+    others = [names.record(other) for other in dict.fromkeys(fault.place for fault in found if fault.place != place)]
     if others:
-        more = [f"{len(others) - MOST_NAMED} more"] if len(others) > MOST_NAMED else []
-        lines.append(f"wrong as well: {joined([names.record(other) for other in others[:MOST_NAMED]] + more)}")
+        lines.append(f"wrong as well: {joined(first_few(others))}")
     return lines + remedy_lines(remedies(table, found), names)
+
+
+def first_few(words):
+    return words if len(words) <= MOST_NAMED else [*words[:MOST_NAMED], f"{len(words) - MOST_NAMED} more"]
 
 
 def record_bytes_words(table, place):
@@ -98,7 +101,8 @@ def by_length(table):
         return [f"no table has {len(table)} bytes: there are {HEADER_SIZE} for the header, {IPDU_SIZE} for each of 0 to {MOST_IPDUS} I-PDUs and "
                 f"{OBJECT_SIZE} for each of 0 to {MOST_OBJECTS} objects"]
     fewest = min(len(differing(table, header)) for header in fitting)
-    return [f"by the {len(table)} bytes of the file it may be: {numbers(header)}" for header in fitting if len(differing(table, header)) == fewest]
+    nearest = [numbers(header) for header in fitting if len(differing(table, header)) == fewest]
+    return [f"by the {len(table)} bytes of the file it may be: {words}" for words in first_few(nearest)]
 
 
 def numbers(header):

@@ -44,7 +44,7 @@ def fitting_headers(length):
 
 
 def header_remedies(table):
-    """A right header has four numbers that follow from the counts, so it is near to few others."""
+    """From the right headers for a file of this length, those that are one byte away."""
     found = []
     for header in fitting_headers(len(table)):
         differing = [at for at in range(HEADER_SIZE) if header[at] != table[at]]
@@ -99,7 +99,7 @@ def is_right_elsewhere(table, part, byte, value):
     """Whether the rules that look at this field from other records, or at several records, hold."""
     if part.field in SHARED:
         return first_fault(table[:byte] + bytes([value]) + table[byte + 1:]) is None
-    if part.field == DEPTH and part.place >= FIRST_OBJECT:
+    if part.field == DEPTH:
         first = record_at(table, FIRST_OBJECT) + DEPTH.at
         return sum(table[first::OBJECT_SIZE]) - table[byte] + value <= MOST_DEPTHS
     return True
