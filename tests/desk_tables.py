@@ -259,6 +259,16 @@ def check_lines(van, request):
     ]:
         if explain(table, *names) != want:
             fail(f"explain says {explain(table, *names)}", table)
+    many = van
+    for i in range(10):
+        many = changed(many, record_at(van, FIRST_OBJECT + i) + 9, 1)
+    for table, want in [
+        (many, "wrong as well: " + ", ".join(f"object {i}" for i in range(1, 9)) + " and 1 more"),
+        (changed(van, 17, 1), "  start bit, byte 67, is 0; no value of it is right, for length in bits, byte 68, is 10, byte order, byte 69, is 0 (little) and "
+         "length in bytes of I-PDU 0, byte 17, is 1; it would reach bit 9, and the last one is 7"),
+    ]:
+        if want not in explain(table):
+            fail(f"there is no line {want!r} in {explain(table)}", table)
     for start, want in [(7, "; from bit 7 up to the end of byte 0 there is room for 1 of its 10 bits"), (200, "; bit 200 is behind the last one, 31")]:
         if not explain(changed(van, 99, start))[1].endswith(want):
             fail(f"the failed rule does not end in {want!r}: {explain(changed(van, 99, start))}", changed(van, 99, start))
