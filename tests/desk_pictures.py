@@ -1,0 +1,379 @@
+#!/usr/bin/env python3
+"""The picture and the report of a journey. docs/van.svg is byte for byte what is made from examples/van.toml, examples/van.script and a run of drive, which
+prints examples/van.stdout. For the van, 5,000 ticks, the largest table, scripts that do little or nothing and awkward titles: the SVG is well-formed, refers to
+nothing outside, has every request, confirm, indication and missed deadline that the test counts from the calls and answers itself, and its texts lie inside
+and not on each other. The report's tags are closed, it refers to nothing outside, all frames are in it, and each value in units is what the test's own walk
+over the bits gives. Where chromium and poppler are on the machine, the report is opened and printed with no network. Needs target/bin/drive."""
+import os
+import random
+import re
+import shutil
+import subprocess
+import sys
+import tempfile
+import tomllib
+import xml.etree.ElementTree as ElementTree
+from collections import Counter
+from decimal import Decimal
+from html.parser import HTMLParser
+
+sys.dont_write_bytecode = True
+TOP = os.path.join(os.path.dirname(os.path.abspath(__file__)), "..")
+sys.path.insert(0, os.path.join(TOP, "tools"))
+from desk import html, layer, source, svg
+
+DRIVE = os.path.join(TOP, "target", "bin", "drive")
+SPACE = "{http://www.w3.org/2000/svg}"
+KINDS = ["request", "confirm", "no_confirm", "indication", "error", "deadline"]
+VOID = {"meta", "br"}
+LEAST_TEXT = 9
+MOST_WIDTH = 2000
+AWKWARD = ["<&\">'", "Überführung der Gemälde, 12 °C", "A " + "very " * 200 + "long title", "W" * 500, "", "tab\tand\nline\x07bell", "貸出品の輸送", "]]>--><!--</svg></style>"]
+SECONDS = 20  # of a browser
+IN_A_TIP = 8  # frames that a tip has the bytes of, at most
+LONG = 5000  # ticks
+
+
+def fail(name, words):
+    sys.exit(f"desk_pictures.py: {name}: {words}")
+
+
+def contents(*path):
+    with open(os.path.join(TOP, *path), encoding="utf-8") as file:
+        return file.read()
+
+
+class Journey:
+    """A run with its picture and report."""
+
+    def __init__(self, name, board, script, title):
+        self.name, self.board, self.script, self.title = name, board, script, title
+        self.made, self.states = layer.played(board, script, name)
+        self.svg = svg.svg(board, self.made, self.states, title)
+        lines = script.count("\n")
+        self.html = html.html(board, self.made, self.states, title, len(self.made) + 1 if len(self.made) < lines else None)
+
+    def fail(self, words):
+        fail(self.name, f"{words}; title {self.title[:40]!r}, script {self.script[:200]!r}")
+
+
+# what the test counts itself
+
+class Expected:
+    """Counts of a run, from the calls, the answers and the times in the table alone."""
+
+    def __init__(self, journey):
+        self.records = journey.board.ipdu_records
+        self.counts = Counter()
+        self.frames = []
+        self.left = {}
+        for step in journey.made:
+            if step.status == 0:
+                self.step(step)
+
+    def step(self, step):
+        if step.call == "start":
+            self.left = {k: record.first_deadline or record.deadline for k, record in enumerate(self.records) if record.direction == 2}
+        elif step.call == "tick":
+            self.tick()
+        elif step.call == "confirm":
+            self.counts["confirm" if step.numbers[1] else "no_confirm"] += 1
+            self.left.pop(step.numbers[0])
+        elif step.call == "indication" and step.numbers[1]:
+            self.left[step.numbers[0]] = self.records[step.numbers[0]].deadline
+            self.counts["indication"] += 1
+            self.frames.append((step.line, step.numbers[0], step.frame))
+        elif step.call == "indication":
+            self.counts["error"] += 1
+        for ipdu, frame in step.requests:
+            self.counts["request"] += 1
+            self.frames.append((step.line, ipdu, frame))
+            self.left.setdefault(ipdu, self.records[ipdu].deadline)
+
+    def tick(self):
+        for ipdu, ticks in list(self.left.items()):
+            if ticks == 1:
+                self.counts["deadline"] += 1
+                del self.left[ipdu]
+                if self.records[ipdu].direction == 2:
+                    self.left[ipdu] = self.records[ipdu].deadline
+            elif ticks > 1:
+                self.left[ipdu] = ticks - 1
+
+
+def walked(frame, start, size, big, signed):
+    """A value from its bits, one after the other from bit 0 on."""
+    raw, place = 0, start
+    for bit in range(size):
+        raw += (frame[place // 8] >> place % 8 & 1) << bit
+        place = place + 1 if not big or place % 8 != 7 else place - 15
+    return raw - 2**size if signed and raw >> size - 1 else raw
+
+
+def in_units(message, frame):
+    raw = walked(frame, message["start_bit"], message["size_in_bits"], message.get("byte_order") == "big", message.get("signed", False))
+    names = message.get("values", {})
+    if str(raw) in names:
+        return names[str(raw)]
+    factor, offset = (Decimal(message.get(key, default)) for key, default in (("factor", 1), ("offset", 0)))
+    places = max(0, -factor.normalize().as_tuple().exponent, -offset.normalize().as_tuple().exponent)
+    return f"{raw * factor + offset:.{places}f} {message.get('unit', '')}".strip()
+
+
+# pictures
+
+def width(character, size):
+    """Of a character, about as wide as in a usual font."""
+    return size * (0.3 if character in "ijlI.,:;'|! " else 0.9 if character in "mwMW%@" or ord(character) > 0x2E80 else 0.62 if character.isupper() else 0.54)
+
+
+def check_svg(journey, expected):
+    try:
+        root = ElementTree.fromstring(journey.svg)
+    except ElementTree.ParseError as error:
+        journey.fail(f"the SVG is no XML: {error}")
+    if root.tag != SPACE + "svg" or root.get("role") != "img" or root[0].tag != SPACE + "title" or root[1].tag != SPACE + "desc":
+        journey.fail("the SVG has no role, title or description")
+    check_references(journey, "the SVG", journey.svg, root)
+    if float(root.get("width")) > MOST_WIDTH:
+        journey.fail(f"the SVG is {root.get('width')} wide")
+    check_texts(journey, root)
+    for legend in root.findall(SPACE + "g"):
+        root.remove(legend)
+    found = Counter()
+    for element in root.iter():
+        found[element.get("class")] += int(element.get("data-count", 1))
+    if {kind: found[kind] for kind in KINDS} != {kind: expected.counts[kind] for kind in KINDS}:
+        journey.fail(f"the SVG has {found}, the run {expected.counts}")
+    if max((int(element.get("data-count", 1)) for element in root.iter()), default=1) <= IN_A_TIP:
+        tips = " ".join(element.text for element in root.iter(SPACE + "title"))
+        for line, ipdu, frame in expected.frames:
+            if frame.hex(" ").upper() not in tips:
+                journey.fail(f"no tip of the SVG has the bytes {frame.hex()} of I-PDU {ipdu}, line {line}")
+    return found
+
+
+def check_references(journey, what, text, root):
+    """No address, script, style sheet or file of elsewhere."""
+    ids = {element.get("id") for element in root.iter()} if root is not None else set(re.findall(" id=\"([^\"]*)\"", text))
+    for target in re.findall(r"url\(([^)]*)\)", text):
+        if target[0] != "#" or target[1:] not in ids:
+            journey.fail(f"{what} refers to {target}")
+    rest = text.replace("xmlns=\"http://www.w3.org/2000/svg\"", "")
+    found = re.search(r"https?:|//|@import|<script|<link|<image|<img|<iframe|<object|\bhref|\bsrc=|<!ENTITY|javascript:", re.sub(r">[^<]*</(?:text|title|h1|td|li|dd)>", "", rest))
+    if found:
+        journey.fail(f"{what} has {found[0]!r}")
+
+
+def check_texts(journey, root):
+    """Texts are large enough, inside the picture and not on each other."""
+    right, bottom = (float(number) for number in root.get("viewBox").split()[2:])
+    boxes = []
+    for element in root.iter(SPACE + "text"):
+        size, x, y = (float(element.get(key)) for key in ("font-size", "x", "y"))
+        wide = sum(width(character, size) for character in element.text)
+        left = x - {"start": 0, "middle": wide / 2, "end": wide}[element.get("text-anchor", "start")]
+        if size < LEAST_TEXT or left < 0 or left + wide > right or y - size < 0 or y + 0.2 * size > bottom:
+            journey.fail(f"the text {element.text!r} of size {size} at {x}, {y} is too small or leaves {right} x {bottom}")
+        boxes.append((y - 0.7 * size, y + 0.1 * size, left, left + wide, element.text))
+    boxes.sort()
+    for place, (top, low, left, end, words) in enumerate(boxes):
+        for other in boxes[place + 1:]:
+            if other[0] >= low:
+                break
+            if left < other[3] and other[2] < end:
+                journey.fail(f"the texts {words!r} and {other[4]!r} lie on each other, at {left:.0f}, {top:.0f} and {other[2]:.0f}, {other[0]:.0f}")
+
+
+# reports
+
+class Reader(HTMLParser):
+    """Checks that tags are closed, and gathers the cells of tables by their class, and the text."""
+
+    def __init__(self, journey):
+        super().__init__()
+        self.journey, self.open, self.tables, self.words, self.ids = journey, [], {}, [], Counter()
+        self.rows = None
+
+    def handle_starttag(self, tag, attributes):
+        values = dict(attributes)
+        self.ids[values.get("id")] += 1
+        if tag not in VOID:
+            self.open.append(tag)
+        if tag == "table":
+            self.rows = self.tables.setdefault(values["class"], [])
+        elif tag == "tr":
+            self.rows.append([])
+        elif tag in ("td", "th"):
+            self.rows[-1].append([])
+
+    def handle_startendtag(self, tag, attributes):
+        self.ids[dict(attributes).get("id")] += 1
+
+    def handle_endtag(self, tag):
+        if not self.open or self.open.pop() != tag:
+            self.journey.fail(f"the report closes <{tag}> where it is not open, at {self.getpos()}")
+
+    def handle_data(self, data):
+        self.words.append(data)
+        if {"td", "th"} & set(self.open) and data.strip():
+            self.rows[-1][-1].append(data.strip())
+
+
+def check_html(journey, expected, data):
+    reader = Reader(journey)
+    reader.feed(journey.html)
+    reader.close()
+    if reader.open or not journey.html.startswith("<!DOCTYPE html>\n<html lang=\"en\">"):
+        journey.fail(f"the report leaves {reader.open} open")
+    twice = [name for name, count in reader.ids.items() if name and count > 1]
+    if twice:
+        journey.fail(f"the report has {twice} as an id twice")
+    check_references(journey, "the report", journey.html, None)
+    rows = reader.tables.get("frames", [[]])[1:]
+    if len(rows) != len(expected.frames):
+        journey.fail(f"the report has {len(rows)} frames, the run {len(expected.frames)}")
+    shown = sorted((int(row[1][0]), row[4][0], row[5][0], tuple(row[6])) for row in rows)
+    worked_out = sorted((line, ipdu.name, frame.hex(" ").upper(), tuple(values_of(journey.board, number, frame, data)))
+                        for line, number, frame in expected.frames for ipdu in [journey.board.ipdus[number]])
+    for one, other in zip(shown, worked_out):
+        if one != other:
+            journey.fail(f"a frame of the report is {one}, and should be {other}")
+    return sum(len(values) // 2 for *_, values in shown)
+
+
+def values_of(board, number, frame, data):
+    """Names and values of a frame's messages, alternating."""
+    for entry in board.objects:
+        if entry.record.ipdu == number:
+            yield entry.name
+            yield in_units(data["message"][entry.name], frame)
+
+
+# journeys
+
+def wandering(board, ticks, seed):
+    """A script of random calls, most of which can be done, with some starts and stops."""
+    chance = random.Random(seed)
+    sent = [entry for entry in board.objects if entry.record.kind == 1]
+    received = [entry for entry in board.objects if entry.record.kind == 2]
+    level = {entry.number: entry.record.initial for entry in sent}
+    lines = ["start", "start_periodic"]
+    for tick in range(ticks):
+        entry = chance.choice(sent)
+        level[entry.number] = (level[entry.number] + chance.randrange(-2, 3)) % 2**entry.record.bits
+        lines.append(f"send {entry.number} {level[entry.number]}")
+        for number, record in enumerate(board.ipdu_records):
+            if record.direction == 1 and chance.random() < 0.6:
+                lines.append(f"confirm {number} {int(chance.random() < 0.9)}")
+            elif record.direction == 2 and chance.random() < 0.25:
+                lines.append(f"indication {number} {int(chance.random() < 0.9)} {chance.randbytes(record.length).hex().upper()}")
+        for entry in received:
+            if chance.random() < 0.3:
+                lines.append(f"receive {entry.number}")
+        lines += [f"clear_marks {chance.randrange(len(board.objects))}"] * (chance.random() < 0.2)
+        lines += ["stop", "tick", "start", "start_periodic"] * (chance.random() < 1 / ticks)
+        lines.append("tick")
+    return "".join(line + "\n" for line in lines)
+
+
+def largest():
+    """A network whose node van has 32 I-PDUs and 128 messages, with awkward words."""
+    lines = ["title = 'Largest'", "tick_ms = 10", "nodes = ['van']", "outside = ['case']"]
+    for k in range(32):
+        lines += [f"[ipdu.Ipdu{k}]", f"id = {0x100 + k}", "size_in_bytes = 8", "comment = '<i> & \"q\" </i>'"]
+        lines += ["sender = 'van'", f"transmission_mode = '{['direct', 'mixed'][k // 2 % 2]}'", "deadline_ms = 50"] if k % 2 == 0 else []
+        lines += ["time_period_ms = 70"] if k % 4 == 2 else []
+        lines += ["sender = 'case'", "deadline_ms = 50", "receiver.van = { deadline_ms = 60 }"] if k % 2 else []
+        for part in range(4):
+            name = f"Message{k}_{part}" + "_with_a_long_name_that_has_no_room" * (part == 3)
+            lines += [f"[message.{name}]", f"ipdu = 'Ipdu{k}'", f"start_bit = {16 * part + (8 if part == 1 else 0)}", f"size_in_bits = {2 if part == 2 else 16}"]
+            lines += [["factor = 0.25", "unit = '<&>'"], ["byte_order = 'big'", "signed = true", "unit = '°C'"],
+                      ["values = { 0 = '</text>', 1 = 'öffnet & schließt', 2 = 'auf', 3 = 'a state with a name of many words' }"],
+                      ["factor = 0.000001", "offset = -40", "unit = 'a long unit'"]][part]
+            lines += ["receiver.van = { queue_size = 4 }"] if k % 2 and part % 2 else []
+    return "\n".join(lines) + "\n"
+
+
+def board_of(file, node):
+    return next(board for board in source.load(file).boards() if board.node == node)
+
+
+def all_journeys(folder):
+    """(journey, the TOML's data)"""
+    file = os.path.join(folder, "largest.toml")
+    with open(file, "w", encoding="utf-8") as output:
+        output.write(largest())
+    van_file = os.path.join(TOP, "examples", "van.toml")
+    van, case, big = board_of(van_file, "van"), board_of(van_file, "case"), board_of(file, "van")
+    if (len(big.ipdus), len(big.objects)) != (32, 128):
+        fail("largest", f"the table has {len(big.ipdus)} I-PDUs and {len(big.objects)} messages")
+    script = contents("examples", "van.script")
+    plans = [(f"{LONG} ticks", van, wandering(van, LONG, 1), "A long journey"), ("case", case, wandering(case, 300, 2), "The case"),
+             ("largest", big, wandering(big, 40, 3), "Largest"), ("largest, empty", big, "", "Empty"), ("empty", van, "", "Empty"),
+             ("never started", van, "tick\nsend 0 450\nconfirm 0 1\ntick\n", "Never"), ("one tick", van, "start\ntick\n", "One tick"),
+             ("a line that can't be read", van, "start\nsend 0 500\nno such call\ntick\n", "Cut"), ("no line feed", van, "start\nsend 0 500\ntick", "Cut")]
+    plans += [(f"title {place}", van, script, title) for place, title in enumerate(AWKWARD)]
+    data = {id(board): tomllib.loads(text, parse_float=Decimal) for board, text in ((van, contents("examples", "van.toml")), (big, largest()))}
+    data[id(case)] = data[id(van)]
+    yield from ((Journey(*plan), data[id(plan[1])]) for plan in [("van", van, script, "Climate van"), *plans])
+
+
+def check_van(journey):
+    printed = layer.drive(DRIVE, journey.board.table, journey.script)
+    if printed != contents("examples", "van.stdout"):
+        journey.fail("drive does not print examples/van.stdout")
+    if journey.svg != contents("docs", "van.svg"):
+        journey.fail("docs/van.svg is not what is made now: make it anew with 'tools/journey'")
+
+
+# a browser
+
+def browsed(journey, folder):
+    """What a browser says to the report; what was left out."""
+    missing = [program for program in ("chromium", "pdfinfo", "pdftotext") if shutil.which(program) is None]
+    if missing:
+        return f"no browser was asked: {' and '.join(missing)} missing"
+    page, pdf = os.path.join(folder, "report.html"), os.path.join(folder, "report.pdf")
+    with open(page, "w", encoding="utf-8") as output:
+        output.write(journey.html)
+    common = ["chromium", "--headless", "--no-sandbox", "--disable-gpu", "--host-resolver-rules=MAP * ~NOTFOUND", f"--user-data-dir={folder}/profile"]
+    seen = output_of(journey, [*common, "--dump-dom", f"file://{page}"])
+    lacking = [words for words in ("<h1>Climate van</h1>", "</svg>", "45.0 to 61.4 %", "</html>") if words not in seen]
+    output_of(journey, [*common, "--no-pdf-header-footer", f"--print-to-pdf={pdf}", f"file://{page}"])
+    pages = int(re.search("Pages: +([0-9]+)", output_of(journey, ["pdfinfo", pdf]))[1])
+    text = " ".join(output_of(journey, ["pdftotext", "-layout", pdf, "-"]).split())
+    lacking += [words for words in ("Climate van", "45.0 to 61.4 %", "tested, not proved") if words not in text]
+    if lacking or pages < 2:
+        journey.fail(f"the browser shows no {lacking}, and prints {pages} pages")
+    return f"a browser prints {pages} pages"
+
+
+def output_of(journey, command):
+    try:
+        return subprocess.run(command, stdout=subprocess.PIPE, stderr=subprocess.PIPE, timeout=SECONDS, check=True).stdout.decode()
+    except (subprocess.SubprocessError, OSError) as error:
+        return journey.fail(f"{command[0]} fails: {error}")
+
+
+def main():
+    if not os.path.exists(DRIVE):
+        sys.exit("desk_pictures.py: target/bin/drive is missing: run 'rt check drive' first")
+    found, values, count, said = Counter(), 0, 0, ""
+    with tempfile.TemporaryDirectory() as folder:
+        for journey, data in all_journeys(folder):
+            expected = Expected(journey)
+            found += check_svg(journey, expected)
+            values += check_html(journey, expected, data)
+            count += 1
+            if journey.name == "van":
+                check_van(journey)
+                said = browsed(journey, folder)
+    never = [kind for kind in [*KINDS, "given", "taken", "lost", "marked", "state", "value", "started", "several"] if not found[kind]]
+    if never or not values:
+        fail("all journeys", f"never met: {never}, values {values}")
+    marks = sum(found[kind] for kind in KINDS)
+    print(f"desk_pictures.py: {count} journeys, {marks} marks of pictures and {values} values of reports are as worked out; docs/van.svg is as made; {said}")
+
+
+main()

@@ -1,0 +1,179 @@
+"""The tables of a report, each from the run and the board to HTML."""
+from html import escape
+
+from . import bits
+from .network import MODES, TRANSFERS
+from .records import NONE, SEND
+from .report_words import counted, escaped, identifier, refusal
+from .sections import plain
+from .sheet import sheet
+
+
+class Markup(str):
+    """Text that is HTML already."""
+
+
+def cell(content):
+    return content if isinstance(content, Markup) else escaped(content)
+
+
+def table(kind, heads, rows, nothing):
+    """A table, or a sentence where it has no rows."""
+    if not rows:
+        return f"<p>{escaped(nothing)}</p>\n"
+    head = "".join(f"<th scope=\"col\">{escaped(name)}</th>" for name in heads)
+    body = "".join("<tr>" + "".join(f"<td>{cell(content)}</td>" for content in row) + "</tr>\n" for row in rows)
+    return f"<table class=\"{kind}\">\n<thead><tr>{head}</tr></thead>\n<tbody>\n{body}</tbody>\n</table>\n"
+
+
+def section(name, body):
+    return f"<section>\n<h2>{escaped(name)}</h2>\n{body}</section>\n"
+
+
+def folded(name, count, body):
+    """A section that a reader may fold; it is open at first, and in print."""
+    return f"<section>\n<details open>\n<summary><h2>{escaped(name)}</h2> <span>{count:,}</span></summary>\n{body}</details>\n</section>\n"
+
+
+def without_unit(scaling, raw):
+    return scaling.names[raw] if raw in scaling.names else scaling.number(raw)
+
+
+def shown_at(reading, value, clock):
+    """A value, and its time below it."""
+    return Markup(f"<b>{escaped(without_unit(reading.entry.scaling, value.raw))}</b> <small>at {escaped(clock.words(value.at))}</small>")
+
+
+HOW = {"carried": ("sent", "frame sent", "frames sent"), "held": ("seen to arrive", "arrival seen", "arrivals seen"), "taken": ("taken", "value taken", "values taken")}
+
+
+def how(reading):
+    """How values of this kind are told: as carried, held or taken."""
+    return HOW["carried" if reading.is_sent else "taken" if reading.is_queued else "held"]
+
+
+def reading_rows(readings, clock):
+    rows = []
+    for reading in readings:
+        name = Markup(f"{escaped(reading.entry.name)}" + (f"<br><small>{escaped(reading.entry.of.comment)}</small>" if reading.entry.of.comment else ""))
+        if not reading.samples:
+            rows.append([name, "-", "-", "-", "-", reading.entry.scaling.unit, counted(0, *how(reading)[1:])])
+            continue
+        values = [*reading.extremes(), reading.samples[0], reading.samples[-1]]
+        rows.append([name, *(shown_at(reading, value, clock) for value in values), reading.entry.scaling.unit, counted(len(reading.samples), *how(reading)[1:])])
+    return rows
+
+
+def reading_table(readings, clock):
+    return table("readings", ["reading", "least", "greatest", "first", "last", "unit", "how many"], reading_rows(readings, clock), "The node has no messages.")
+
+
+def sheet_table(board, made):
+    rows = []
+    for row in sheet(board, made):
+        values = ["-" if value is None else row.entry.text(value) for value in (row.first, row.last, row.least, row.greatest)]
+        rows.append([row.entry.number, row.entry.name, f"{row.drained:,}", *values, f"{row.overflows:,}", f"{row.errors:,}"])
+    return table("sheet", ["number", "message", "drained", "first", "last", "least", "greatest", "overflows", "errors"], rows, "The node has no queue.")
+
+
+# the table
+
+def ipdu_words(board, number, record):
+    """What an I-PDU's record says."""
+    def time(ticks):
+        return f"{board.network.milliseconds(ticks)} ms"
+
+    if record.direction != SEND:
+        first = f", the first after a start {time(record.first_deadline)}" if record.first_deadline else ""
+        return f"received; {f'deadline {time(record.deadline)}{first}' if record.deadline else 'no deadline'}"
+    period = f", every {time(record.period)}, first after {time(record.offset)}" if record.period else ""
+    delay = f"; minimum delay {time(record.minimum_delay)}" if record.minimum_delay else ""
+    return f"sent, {MODES[record.mode]}{period}{delay}; deadline {time(record.deadline)}"
+
+
+def ipdu_table(board):
+    rows = [[number, ipdu.name, identifier(ipdu), counted(ipdu.length, "byte"), ipdu_words(board, number, record), ipdu.comment]
+            for number, (ipdu, record) in enumerate(zip(board.ipdus, board.ipdu_records))]
+    return table("ipdus", ["number", "I-PDU", "identifier", "length", "behaviour", "comment"], rows, "The node has no I-PDUs.")
+
+
+def place_words(board, entry):
+    record = entry.record
+    sign = "signed" if record.signed else "unsigned"
+    if record.ipdu != NONE:
+        return f"{board.ipdu_name(record.ipdu)}: {counted(record.bits, 'bit')} from bit {record.start}, {'big' if record.big else 'little'}, {sign}"
+    return (f"inside, from {board.object_name(record.sender)}" if record.sender != NONE else "in no I-PDU") + f", {sign}"
+
+
+def meaning_words(scaling):
+    names = ", ".join(f"{raw} is {name}" for raw, name in scaling.names.items())
+    offset = f" + {plain(scaling.offset)}" if scaling.offset else ""
+    scale = f"raw * {plain(scaling.factor)}{offset} {scaling.unit}".rstrip() if scaling.factor != 1 or scaling.offset else scaling.unit
+    return "; ".join(words for words in (scale, names) if words)
+
+
+def behaviour_words(entry):
+    record = entry.record
+    kind = f"sent, {TRANSFERS[record.transfer]}" if record.kind == SEND else "received"
+    queue = f", queue of {record.depth}" if record.depth else ""
+    return f"{kind}{queue}; filter {entry.filter().words(entry.scaling, record.signed)}; initial value {entry.text(record.initial)}"
+
+
+def message_table(board):
+    rows = [[entry.number, entry.name, place_words(board, entry), meaning_words(entry.scaling), behaviour_words(entry), entry.of.comment] for entry in board.objects]
+    return table("messages", ["number", "message", "place", "meaning", "behaviour", "comment"], rows, "The node has no messages.")
+
+
+def bits_pictures(board):
+    """Where the messages of each I-PDU lie in it."""
+    pictures = []
+    for number, ipdu in enumerate(board.ipdus):
+        lines = bits.picture(ipdu.length, [(entry.name, entry.record.start, entry.record.bits, entry.record.big) for entry in board.carried(number)])
+        text = escape("\n".join(lines))
+        pictures.append(f"<figure class=\"bits\"><figcaption>{escaped(ipdu.name)}</figcaption><pre>{text}</pre></figure>\n")
+    return f"<div class=\"all-bits\">\n{''.join(pictures)}</div>\n" if pictures else ""
+
+
+# what happened
+
+def faults(board, lanes):
+    """(time, line, what, I-PDU's number) of missed deadlines and errors, in the order of time."""
+    words = {(True, "deadline"): "deadline missed: a request was not confirmed in time", (False, "deadline"): "deadline missed: no frame came in time",
+             (True, "no_confirm"): "not sent, as its confirm says", (False, "error"): "received with an error"}
+    found = [(event.at, event.line, words[key], lane.number) for lane in lanes for event in lane.events
+             for key in [(lane.record.direction == SEND, event.what)] if key in words]
+    return sorted(found)
+
+
+def fault_table(board, lanes, clock):
+    rows = [[clock.words(at), line, board.ipdu_name(number), what, ", ".join(entry.name for entry in board.carried(number))]
+            for at, line, what, number in faults(board, lanes)]
+    return table("faults", ["time", "line", "I-PDU", "what", "messages"], rows, "No deadline was missed, and no frame was wrong.")
+
+
+def call_text(step):
+    """A call as its script has it."""
+    frame = [step.frame.hex().upper()] if step.frame else []
+    return " ".join([step.call, *map(str, step.numbers), *frame])
+
+
+def refused_table(made, clock):
+    rows = [[clock.words(step.at), step.line, call_text(step), refusal(step.status)] for step in made if not step.is_done]
+    return table("refused", ["time", "line", "call", "answer"], rows, "No call was refused.")
+
+
+def frames(lanes):
+    """(time, line, direction, I-PDU's number, bytes) of all frames, in the order of the calls."""
+    directions = {"request": "sent", "indication": "received"}
+    return sorted((event.at, event.line, directions[event.what], lane.number, event.frame) for lane in lanes for event in lane.events if event.what in directions)
+
+
+def frame_table(board, lanes, clock):
+    carried = [board.carried(number) for number in range(len(board.ipdus))]
+    rows = []
+    for at, line, direction, number, frame in frames(lanes):
+        values = "".join(f"<span class=\"carried\"><i>{escaped(entry.name)}</i> <b>{escaped(entry.scaling.text(entry.of.in_frame(frame)))}</b></span> "
+                         for entry in carried[number])
+        rows.append([clock.words(at), line, direction, identifier(board.ipdus[number]), board.ipdus[number].name,
+                     Markup(f"<code>{frame.hex(' ').upper()}</code>"), Markup(values.rstrip())])
+    return table("frames", ["time", "line", "", "identifier", "I-PDU", "bytes", "values"], rows, "No frame was sent or received.")

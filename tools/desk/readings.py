@@ -1,0 +1,168 @@
+"""The values of each object of a board in a run: carried by frames, held or taken, and given to sends; and when its marks were set."""
+from dataclasses import dataclass, field
+from typing import NamedTuple
+
+from . import bits
+from .records import SEND, WHOLE
+from .report_words import MARKS
+from .run import LIMIT
+from .timeline import Span
+
+ARRIVED = 1
+
+
+class Value(NamedTuple):
+    """A raw value at a time. `how` is carried, held, taken, lost (taken, and the queue had lost one) or given (a send whose call made no frame with it)."""
+
+    at: float
+    raw: int
+    how: str
+    line: int
+
+
+class Run(NamedTuple):
+    """Values from one start to the next; `end` is where that is."""
+
+    end: float
+    values: list
+
+
+@dataclass
+class Reading:
+    """`lines` are what frames carried or the layer held, a Run from each start on; `dots` what was taken or given; `samples` what counts as a reading:
+    carried by a frame, seen to arrive, or taken. An initial value that nothing carried is none."""
+
+    entry: object
+    lines: list = field(default_factory=list)
+    dots: list = field(default_factory=list)
+    samples: list = field(default_factory=list)
+
+    def text(self, value):
+        return self.entry.scaling.text(value.raw)
+
+    @property
+    def is_sent(self):
+        return self.entry.record.kind == SEND
+
+    @property
+    def is_queued(self):
+        return self.entry.record.depth > 0
+
+    def raws(self):
+        """All values that a picture shows."""
+        return [value.raw for run in self.lines for value in run.values] + [value.raw for value in self.dots]
+
+    def extremes(self):
+        """The first of the least and the first of the greatest samples, by what they mean in the unit."""
+        def physical(value):
+            return self.entry.scaling.physical(value.raw)
+        return min(self.samples, key=physical), max(self.samples, key=physical)
+
+
+class Collect:
+    """Follows a run and fills the readings of a board."""
+
+    def __init__(self, board):
+        self.board = board
+        self.readings = [Reading(entry) for entry in board.objects]
+        self.carried = [board.carried(number) for number in range(len(board.ipdus))]
+        self.open = {}
+        self.held = {}
+        self.before = None
+
+    def start(self, at):
+        """Ends the lines of what ran before."""
+        for number, values in self.open.items():
+            self.readings[number].lines.append(Run(at, values))
+        self.open, self.held = {}, {}
+
+    def step(self, step, state):
+        if not step.is_done:
+            return
+        if step.call == "start":
+            self.start(step.at)
+        self.frames(step)
+        if step.call == "send":
+            self.given(step)
+        elif step.call == "receive":
+            self.taken(step)
+        if state is not self.before:
+            self.hold(step, state)
+        self.before = state
+
+    def frames(self, step):
+        for number, frame in step.requests:
+            for entry in self.carried[number]:
+                value = Value(step.at, entry.of.in_frame(frame), "carried", step.line)
+                self.open.setdefault(entry.number, []).append(value)
+                self.readings[entry.number].samples.append(value)
+
+    def given(self, step):
+        """A send whose frame, where its call made one, does not hold the value."""
+        number, word = step.numbers
+        entry = self.board.objects[number]
+        raw = bits.meant(word % WHOLE, entry.record.signed)
+        frames = [frame for ipdu, frame in step.requests if ipdu == entry.record.ipdu]
+        if not any((entry.of.in_frame(frame) - raw) % 2**entry.record.bits == 0 for frame in frames):
+            self.readings[number].dots.append(Value(step.at, raw, "given", step.line))
+
+    def taken(self, step):
+        reading = self.readings[step.numbers[0]]
+        if reading.is_queued:
+            value = Value(step.at, step.value, "lost" if step.status == LIMIT else "taken", step.line)
+            reading.dots.append(value)
+            reading.samples.append(value)
+
+    def hold(self, step, state):
+        """What unqueued receive objects hold; a reading where the value is another, or where it was not marked as arrived before."""
+        for number, raw in state.values.items():
+            if raw is None:
+                continue
+            changed = self.held.get(number) != raw
+            value = Value(step.at, raw, "held", step.line)
+            if changed:
+                self.open.setdefault(number, []).append(value)
+                self.held[number] = raw
+            newly = state.marks[number] & ARRIVED and not (self.before and (self.before.marks[number] or 0) & ARRIVED)
+            if step.call not in ("start", "initialise") and (changed or newly):
+                self.readings[number].samples.append(value)
+
+
+def readings(board, made, states, end):
+    """A Reading for each object, by its number, up to the time `end`."""
+    collect = Collect(board)
+    for step, state in zip(made, states, strict=True):
+        collect.step(step, state)
+    collect.start(end)
+    return collect.readings
+
+
+def mark_spans(board, made, states, end):
+    """For each object, by the name of a mark, the times in which it was set."""
+    spans = [{name: [] for name in MARKS.values()} for _ in board.objects]
+    since, before = {}, None
+    for step, state in zip(made, states, strict=True):
+        if state is before:
+            continue
+        for number, marks in enumerate(state.marks):
+            for bit, name in MARKS.items():
+                key = number, name
+                if (marks or 0) & bit:
+                    since.setdefault(key, step.at)
+                elif key in since:
+                    spans[number][name].append(Span(since.pop(key), step.at, "cleared"))
+        before = state
+    for (number, name), begin in since.items():
+        spans[number][name].append(Span(begin, end, "end"))
+    return spans
+
+
+def layer_spans(made, end):
+    """The times in which the layer ran or was stopped, and the times of the starts."""
+    spans, starts, since, how = [], [], 0.0, "stopped"
+    for step in made:
+        if step.is_done and step.call in ("start", "stop"):
+            spans.append(Span(since, step.at, how))
+            since, how = step.at, "running" if step.call == "start" else "stopped"
+            starts += [step] if step.call == "start" else []
+    return spans + [Span(since, end, how)], starts

@@ -1,0 +1,77 @@
+"""Words of picture and report: text that is safe in XML and HTML, counts, a journey's times, and what the answers mean."""
+import re
+from html import escape
+
+from .run import LIMIT, duration
+
+# docs/SCRIPT.md's answers, those that refuse a call.
+REFUSALS = {
+    1: "no such object or I-PDU, or not of the kind that the call asks for",
+    2: "another length than the I-PDU's",
+    3: "a value of the queue was lost since the last receive",
+    4: "the queue is empty",
+    5: "the table is wrong",
+    7: "the layer is stopped, or was not started yet",
+    8: "a confirm with no request open",
+}
+MARKS = {1: "arrived", 2: "sent", 4: "receive error", 8: "send error"}
+MOST_MILLISECONDS = 2000  # a longer journey is shown in seconds
+NOT_XML = re.compile("[^\t\n\r\x20-\ud7ff\ue000-\ufffd\U00010000-\U0010ffff]")
+
+
+def clean(text):
+    """On one line, and with no character that XML forbids."""
+    return " ".join(NOT_XML.sub("\ufffd", text).split())
+
+
+def escaped(text):
+    """Text for XML or HTML, also inside a quoted attribute."""
+    return escape(clean(str(text)))
+
+
+def counted(count, one, many=None):
+    return f"{count:,} {one if count == 1 else many or one + 's'}"
+
+
+def spaced(name):
+    """A name as people write it: FrontHumidity is Front humidity."""
+    parts = re.findall("[A-Z]+(?![a-z])|[A-Z]?[a-z]+|[0-9]+", name)
+    plain = [part if part.isupper() and len(part) > 1 else part.lower() for part in parts]
+    joined = " ".join(plain) or name
+    return joined[0].upper() + joined[1:]
+
+
+def refusal(status):
+    return f"{status}: {REFUSALS.get(status, 'an answer that is not known')}"
+
+
+def identifier(ipdu):
+    """A CAN identifier as people write it."""
+    if ipdu.identifier is None:
+        return "no identifier"
+    return f"0x{ipdu.identifier:X}" + (" extended" if ipdu.extended else "")
+
+
+class Clock:
+    """The times of a journey, in milliseconds or seconds. A call between two ticks is at the time of the tick before it."""
+
+    def __init__(self, network, made):
+        self.tick, self.ticks = network.tick, duration(made)
+        in_seconds = self.ticks * self.tick > MOST_MILLISECONDS
+        self.unit, self.step = ("s", self.tick / 1000) if in_seconds else ("ms", self.tick)
+        self.decimals = max(0, -self.step.normalize().as_tuple().exponent)
+
+    def number(self, at):
+        return f"{int(at) * self.step:.{self.decimals}f}"
+
+    def words(self, at):
+        return f"{self.number(at)} {self.unit}"
+
+    def length(self):
+        """From the first call to the last tick."""
+        return self.words(self.ticks - 1)
+
+
+def lost(made):
+    """The receives that found an overflow: at least one value each was lost."""
+    return [step for step in made if step.call == "receive" and step.status == LIMIT]

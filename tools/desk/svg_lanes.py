@@ -1,0 +1,261 @@
+"""The lanes of a picture: one for each I-PDU and one for each message. A lane knows its height, and draws itself at a place of a canvas."""
+from .network import MODES
+from .records import NONE, SEND
+from .report_words import counted, identifier
+from .svg_draw import NORMAL, SMALL, Box, shortened, text_width
+
+NAMES_AT, INDENT, PLOT_AT = 16, 12, 262  # where names and the time's beginning are, from the left
+SCALE_ROOM = 76  # for the least and the greatest value, left of the plot
+NEAR = 5.0  # marks of a kind that are nearer than this are drawn as one
+LABEL_SHIFTS = (0, 12, 24, 36)  # how far a value is written behind its change where something is in the way
+THIN = 1.0  # spans and changes nearer than this are drawn as one
+
+ENDED = {"confirm": "confirmed", "no_confirm": "not sent", "deadline": "deadline missed", "start": "ended by a start", "end": "open at the end"}
+DELAYED = {"passed": "passed", "confirm": "begun anew by a confirm", "deadline": "ended by a deadline", "start": "ended by a start",
+           "end": "runs at the end"}
+WATCHED = {"indication": "in time", "deadline": "deadline missed", "start": "ended by a start", "end": "waits at the end"}
+EVENTS = {"request": "request", "confirm": "good confirm", "no_confirm": "confirm, not sent", "indication": "good indication",
+          "error": "indication, not good", "deadline": "missed deadline"}
+
+
+class Times:
+    """Times as places: `width` pixels for all ticks of a clock."""
+
+    def __init__(self, clock, width):
+        self.clock, self.width = clock, width
+        self.scale = width / clock.ticks
+
+    def x(self, at):
+        return PLOT_AT + at * self.scale
+
+    def words(self, begin, end):
+        first, last = self.clock.number(begin), self.clock.words(end)
+        return last if int(begin) == int(end) else f"{first} to {last}"
+
+
+def near(items, begin, end, gap):
+    """Neighbours in lists: each begins less than `gap` after the first of its list began, or, with spans, after the one before it ended."""
+    groups = []
+    for item in items:
+        if groups and begin(item) - end(groups[-1]) < gap:
+            groups[-1].append(item)
+        else:
+            groups.append([item])
+    return groups
+
+
+def hex_bytes(frame):
+    return frame.hex(" ").upper() if frame else "no bytes"
+
+
+class IpduLane:
+    """Requests with their confirms and delays, or indications with the time in which one is waited for."""
+
+    height = 38
+
+    def __init__(self, ipdu, lane, times):
+        self.ipdu, self.lane, self.times = ipdu, lane, times
+        self.is_sent = lane.record.direction == SEND
+
+    def draw(self, canvas, top):
+        room = PLOT_AT - 14 - NAMES_AT
+        canvas.name(NAMES_AT, top + 17, self.ipdu.name, NORMAL, room, "strong")
+        words = f"{identifier(self.ipdu)}, " + (f"sent, {MODES[self.lane.record.mode]}" if self.is_sent else "received")
+        canvas.name(NAMES_AT, top + 31, words, SMALL, room, "quiet")
+        if self.is_sent:
+            self.spans(canvas, self.lane.open, top + 21, 9, lambda how: ("open", how), "request open", ENDED)
+            self.spans(canvas, self.lane.delays, top + 21, 9, lambda how: ("delay", "delay"), "minimum delay", DELAYED)
+        else:
+            self.spans(canvas, self.lane.watched, top + 24, 4, lambda how: ("watched", "deadline" if how == "deadline" else "in_time"),
+                       "waits for a frame", WATCHED)
+        levels = {"request": 12, "confirm": 25.5, "no_confirm": 25.5, "indication": 13, "error": 13, "deadline": 26}
+        for what, level in levels.items():
+            self.marks(canvas, what, top + level)
+
+    def spans(self, canvas, spans, y, height, kinds, words, endings):
+        x = self.times.x
+        for how in dict.fromkeys(span.how for span in spans):
+            alike = [span for span in spans if span.how == how]
+            for group in near(alike, lambda span: x(span.begin), lambda group: x(group[-1].end), 0 if x(1) - x(0) > 2 else THIN):
+                first, last = group[0], group[-1]
+                several = f"{len(group)} times " if len(group) > 1 else ""
+                tip = f"{self.ipdu.name}: {several}{words}, {self.times.words(first.begin, last.end)}: {endings[how]}"
+                kind, fill = kinds(how)
+                canvas.bar(f"bar {kind}", fill, x(first.begin), y, x(last.end), height, tip, len(group))
+
+    def marks(self, canvas, what, y):
+        events = [event for event in self.lane.events if event.what == what]
+        x = self.times.x
+        for group in near(events, lambda event: x(event.at), lambda group: x(group[0].at), NEAR):
+            first, last = group[0], group[-1]
+            when = self.times.words(first.at, last.at)
+            if len(group) > 1:
+                frames = "".join(f"; {hex_bytes(event.frame)}" for event in group[:8] if event.frame) + ("; .." if len(group) > 8 and first.frame else "")
+                tip = f"{self.ipdu.name}: {len(group)} of {EVENTS[what]}, {when}{frames}"
+            else:
+                tip = f"{self.ipdu.name}: {EVENTS[what]}, {when}, line {first.line}" + (f": {hex_bytes(first.frame)}" if first.frame else "")
+            canvas.mark(what, (x(first.at) + x(last.at)) / 2, y, tip, len(group))
+
+
+class MessageLane:
+    """A value over time, as a line, as a band of named states or as dots; below it two thin strips of marks."""
+
+    strip = 4
+
+    def __init__(self, board, reading, marks, times):
+        self.board, self.reading, self.times = board, reading, times
+        self.entry, self.scaling = reading.entry, reading.entry.scaling
+        raws = reading.raws()
+        self.is_band = bool(raws) and bool(reading.lines) and all(raw in self.scaling.names for raw in raws)
+        self.body = 17 if self.is_band or not raws else 34
+        self.height = 6 + self.body + 4 + 2 * self.strip + 6
+        self.least, self.greatest = (self.drawn(min(raws, key=self.drawn)), self.drawn(max(raws, key=self.drawn))) if raws else (0.0, 0.0)
+        good, bad = ("sent", "send error") if reading.is_sent else ("arrived", "receive error")
+        self.strips = [(good, "good", marks[good]), (bad, "bad", marks[bad])]
+
+    def drawn(self, raw):
+        return float(self.scaling.physical(raw))
+
+    def y(self, top, raw):
+        """The place of a value; one that is all there is lies in the middle."""
+        part = (self.drawn(raw) - self.least) / (self.greatest - self.least) if self.greatest > self.least else 0.5
+        return top + 6 + self.body * (1 - part)
+
+    def kind(self):
+        record = self.entry.record
+        queue = f", queue of {record.depth}" if record.depth else ""
+        if record.kind == SEND:
+            return "sent" if record.ipdu != NONE else "sent inside"
+        return ("received" if record.ipdu != NONE else f"from {self.board.object_name(record.sender)}" if record.sender != NONE else "received inside") + queue
+
+    def draw(self, canvas, top):
+        room = PLOT_AT - SCALE_ROOM - 14 - NAMES_AT - INDENT
+        canvas.name(NAMES_AT + INDENT, top + 15, self.entry.name, NORMAL, room)
+        canvas.name(NAMES_AT + INDENT, top + 28, self.kind(), SMALL, room, "quiet")
+        for place, (name, how, spans) in enumerate(self.strips):
+            self.marked(canvas, spans, top + 6 + self.body + 4 + place * (self.strip + 1), how, name)
+        if not self.reading.raws():
+            canvas.text(PLOT_AT + 6, top + 19, "no value", SMALL, "quiet")
+            return
+        if self.is_band:
+            self.bands(canvas, top)
+        else:
+            self.scale_ends(canvas, top)
+            self.dots(canvas, top)
+            for run in self.reading.lines:
+                self.line(canvas, top, run)
+
+    def marked(self, canvas, spans, y, how, name):
+        x = self.times.x
+        for group in near(spans, lambda span: x(span.begin), lambda group: x(group[-1].end), THIN):
+            first, last = group[0], group[-1]
+            several = f", {len(group)} times" if len(group) > 1 else ""
+            canvas.bar("marked", how, x(first.begin), y, x(last.end), self.strip,
+                       f"{self.entry.name}: marked {name}{several}, {self.times.words(first.begin, last.end)}", len(group))
+
+    def scale_ends(self, canvas, top):
+        ends = [(self.greatest, 4), (self.least, self.body + 4)] if self.greatest > self.least else [(self.least, self.body / 2 + 4)]
+        texts = {self.drawn(raw): self.scaling.text(raw) for raw in set(self.reading.raws())}
+        for value, down in ends:
+            words = texts[value] if text_width(texts[value], SMALL) <= SCALE_ROOM else f"{value:.4g}"
+            canvas.text(PLOT_AT - 8, top + 6 + down, shortened(words, SMALL, SCALE_ROOM), SMALL, "quiet", "end")
+
+    # lines
+
+    def changes(self, run):
+        """The values of a run that differ from the one before."""
+        return [value for place, value in enumerate(run.values) if place == 0 or value.raw != run.values[place - 1].raw]
+
+    def line(self, canvas, top, run):
+        """A step line; changes within one pixel are drawn from the least to the greatest of them."""
+        changes, x = self.changes(run), self.times.x
+        groups = near(changes, lambda value: x(value.at), lambda group: x(group[0].at), THIN)
+        parts = [f"M{x(changes[0].at):.1f} {self.y(top, changes[0].raw):.1f}"]
+        for group in groups:
+            places = [self.y(top, value.raw) for value in group]
+            ends = [min(places), max(places)] if len(group) > 2 else []
+            parts.append(f"H{x(group[0].at):.1f}" + "".join(f"V{place:.1f}" for place in [*places[:1], *ends, places[-1]]))
+        parts.append(f"H{max(x(run.end), x(changes[-1].at) + 1):.1f}")
+        least, greatest = (pick(changes, key=lambda value: self.drawn(value.raw)) for pick in (min, max))
+        shown = self.reading.text(least) + (f" to {self.reading.text(greatest)}" if least.raw != greatest.raw else "")
+        canvas.add("path", {"class": "value", "d": "".join(parts)},
+                   f"{self.entry.name}: {shown}, {counted(len(changes), 'value')}, {self.times.words(changes[0].at, run.end)}")
+        self.labels(canvas, top, groups, run.end)
+
+    def labels(self, canvas, top, groups, end):
+        """Each value above or below its own flat piece, where that is long enough."""
+        x = self.times.x
+        for group, following in zip(groups, [*groups[1:], None]):
+            value = group[-1]
+            words, left = self.reading.text(value), x(value.at) + 4
+            right = x(following[0].at if following else end)
+            if left + text_width(words, SMALL) > right:
+                continue
+            y, room = self.y(top, value.raw), right - left - text_width(words, SMALL)
+            lines = [line for line in ([y - 4, y + 12] if y - top > 16 else [y + 12, y - 4]) if top + 8 <= line <= top + self.body + 8]
+            shifts = [shift for shift in LABEL_SHIFTS if shift <= room]
+            any(canvas.text_where_free(left + shift, line, words, SMALL) for shift in shifts for line in lines)
+
+    # dots
+
+    def dots(self, canvas, top):
+        x = self.times.x
+        for how in ("given", "taken", "lost"):
+            values = [value for value in self.reading.dots if value.how == how]
+            for group in near(values, lambda value: x(value.at), lambda group: x(group[0].at), THIN if self.times.scale > 8 else NEAR):
+                self.dot(canvas, top, how, group)
+        for value in self.reading.dots:
+            if value.how != "given":
+                self.dot_label(canvas, top, value)
+
+    def dot(self, canvas, top, how, group):
+        words = {"given": "given to a send, in no frame of that call", "taken": "taken by a receive", "lost": "taken by a receive; a value before it was lost"}
+        first, last, x = group[0], group[-1], self.times.x
+        places = [self.y(top, value.raw) for value in group]
+        low, high = min(group, key=lambda value: self.drawn(value.raw)), max(group, key=lambda value: self.drawn(value.raw))
+        several = f"{len(group)} values, " if len(group) > 1 else ""
+        shown = self.reading.text(low) + (f" to {self.reading.text(high)}" if low.raw != high.raw else "")
+        middle = (x(first.at) + x(last.at)) / 2
+        if max(places) - min(places) > 2:
+            canvas.line("between", middle, min(places), middle, max(places))
+        canvas.mark(how, middle, (min(places) + max(places)) / 2, f"{self.entry.name}: {several}{shown}, {words[how]}, {self.times.words(first.at, last.at)}",
+                    len(group))
+
+    def dot_label(self, canvas, top, value):
+        words, y = self.reading.text(value), self.y(top, value.raw)
+        left = self.times.x(value.at) + 9
+        if left + text_width(words, SMALL) <= self.times.x(self.times.clock.ticks):
+            canvas.text_where_free(left, min(max(y + 3.5, top + 8), top + self.body + 8), words, SMALL)
+
+    # bands of named states
+
+    def bands(self, canvas, top):
+        for value in self.reading.dots:
+            canvas.taken.append(Box(self.times.x(value.at) - 4, top, self.times.x(value.at) + 4, top + 6 + self.body))
+        shades = {raw: place for place, raw in enumerate(sorted(self.scaling.names))}
+        for run in self.reading.lines:
+            self.band(canvas, top, run, shades)
+        x = self.times.x
+        for group in near(self.reading.dots, lambda value: x(value.at), lambda group: x(group[0].at), THIN if self.times.scale > 8 else NEAR):
+            middle = (x(group[0].at) + x(group[-1].at)) / 2
+            names = ", ".join(dict.fromkeys(self.reading.text(value) for value in group))
+            canvas.mark("given", middle, top + 6 + self.body / 2,
+                        f"{self.entry.name}: {names}, given to a send, in no frame of that call, {self.times.words(group[0].at, group[-1].at)}", len(group))
+
+    def band(self, canvas, top, run, shades):
+        """A piece for each state, with its name where there is room; changes within one pixel are one piece of their own pattern."""
+        changes, x = self.changes(run), self.times.x
+        groups = near(changes, lambda value: x(value.at), lambda group: x(group[0].at), THIN)
+        tones = ["#fff", "#b9d7ea", "#e9edf0", "#8fbfdd", "#d5e6d9"]
+        for group, following in zip(groups, [*groups[1:], None]):
+            end = following[0].at if following else run.end
+            value, left, right = group[-1], x(group[0].at), x(end)
+            name = self.reading.text(value)
+            when = self.times.words(group[0].at, end)
+            if len(group) > 1:
+                canvas.bar("state", "many", left, top + 6, left + THIN, self.body, f"{self.entry.name}: {len(group)} changes, {when}", len(group))
+                left += THIN
+            canvas.add("rect", {"class": "state", "x": left, "y": top + 6, "width": max(0.5, right - left), "height": self.body,
+                                "fill": tones[shades[value.raw] % len(tones)]}, f"{self.entry.name}: {name}, {when}")
+            if text_width(name, SMALL) + 6 <= right - left:
+                canvas.text_where_free(left + 4, top + 6 + self.body / 2 + 4, name, SMALL)
