@@ -142,7 +142,8 @@ def check_svg(journey, expected):
         root.remove(legend)
     found = Counter()
     for element in root.iter():
-        found[element.get("class")] += int(element.get("data-count", 1))
+        for kind in element.get("class", "").split():
+            found[kind] += int(element.get("data-count", 1))
     if {kind: found[kind] for kind in KINDS} != {kind: expected.counts[kind] for kind in KINDS}:
         journey.fail(f"the SVG has {found}, the run {expected.counts}")
     if max((int(element.get("data-count", 1)) for element in root.iter()), default=1) <= IN_A_TIP:
@@ -369,7 +370,7 @@ def main():
             if journey.name == "van":
                 check_van(journey)
                 said = browsed(journey, folder)
-    never = [kind for kind in [*KINDS, "given", "taken", "lost", "marked", "state", "value", "started", "several"] if not found[kind]]
+    never = [kind for kind in [*KINDS, "given", "taken", "lost", "marked", "state", "value", "started", "several", "dense"] if not found[kind]]
     if never or not values:
         fail("all journeys", f"never met: {never}, values {values}")
     marks = sum(found[kind] for kind in KINDS)

@@ -12,7 +12,7 @@ ARRIVED = 1
 
 
 class Value(NamedTuple):
-    """A raw value at a time. `how` is carried, held, taken, lost (taken, and the queue had lost one) or given (a send whose call made no frame with it)."""
+    """A raw value at a time. `how` is carried, held, taken, lost (taken, and the queue had lost one) or given (to a send, and no frame carried it)."""
 
     at: float
     raw: int
@@ -66,26 +66,27 @@ class Collect:
         self.board = board
         self.readings = [Reading(entry) for entry in board.objects]
         self.carried = [board.carried(number) for number in range(len(board.ipdus))]
-        self.open = {}
-        self.held = {}
+        self.open, self.held, self.waiting = {}, {}, {}
         self.before = None
 
     def start(self, at):
-        """Ends the lines of what ran before."""
+        """Ends what ran before."""
         for number, values in self.open.items():
             self.readings[number].lines.append(Run(at, values))
-        self.open, self.held = {}, {}
+        for number, values in self.waiting.items():
+            self.readings[number].dots += values
+        self.open, self.held, self.waiting = {}, {}, {}
 
     def step(self, step, state):
         if not step.is_done:
             return
         if step.call == "start":
             self.start(step.at)
-        self.frames(step)
-        if step.call == "send":
+        elif step.call == "send":
             self.given(step)
         elif step.call == "receive":
             self.taken(step)
+        self.frames(step)
         if state is not self.before:
             self.hold(step, state)
         self.before = state
@@ -96,15 +97,18 @@ class Collect:
                 value = Value(step.at, entry.of.in_frame(frame), "carried", step.line)
                 self.open.setdefault(entry.number, []).append(value)
                 self.readings[entry.number].samples.append(value)
+                self.settle(entry, value.raw)
+
+    def settle(self, entry, carried):
+        """What was given to sends since the last frame: this one holds the value, cut to its bits, or the value did not go."""
+        values = self.waiting.pop(entry.number, [])
+        self.readings[entry.number].dots += [value for value in values if (value.raw - carried) % 2**entry.record.bits]
 
     def given(self, step):
-        """A send whose frame, where its call made one, does not hold the value."""
+        """A send's value waits for a frame."""
         number, word = step.numbers
-        entry = self.board.objects[number]
-        raw = bits.meant(word % WHOLE, entry.record.signed)
-        frames = [frame for ipdu, frame in step.requests if ipdu == entry.record.ipdu]
-        if not any((entry.of.in_frame(frame) - raw) % 2**entry.record.bits == 0 for frame in frames):
-            self.readings[number].dots.append(Value(step.at, raw, "given", step.line))
+        signed = self.board.objects[number].record.signed
+        self.waiting.setdefault(number, []).append(Value(step.at, bits.meant(word % WHOLE, signed), "given", step.line))
 
     def taken(self, step):
         reading = self.readings[step.numbers[0]]
@@ -134,6 +138,8 @@ def readings(board, made, states, end):
     for step, state in zip(made, states, strict=True):
         collect.step(step, state)
     collect.start(end)
+    for reading in collect.readings:
+        reading.dots.sort(key=lambda value: value.line)
     return collect.readings
 
 

@@ -17,10 +17,10 @@ LEGEND_LINE, LEGEND_LINES = 22, 4
 PAGE_RATIO = 0.64  # of a landscape page, height by width
 LEGEND = [
     ("mark", "request", "request"), ("mark", "confirm", "good confirm"), ("mark", "no_confirm", "not sent, or a bad indication"),
-    ("mark", "indication", "good indication"), ("mark", "deadline", "deadline missed"), ("several", "request", "several in one place"),
+    ("mark", "indication", "good indication"), ("mark", "deadline", "deadline missed"), ("several", "request", "several in one place"), ("dense", "request", "very many: a stroke for some of them"),
     ("bar", "confirm", "request open until it is confirmed"), ("bar", "no_confirm", "until it is not sent"), ("bar", "deadline", "until its deadline is missed"),
     ("bar", "start", "until a start"), ("bar", "end", "open at the end"), ("bar", "delay", "minimum delay"), ("thin", "in_time", "a frame is waited for"), ("thin", "deadline", "in vain"),
-    ("line", "value", "value carried by frames, or held"), ("mark", "given", "value given to a send, in no frame of that call"),
+    ("line", "value", "value carried by frames, or held"), ("mark", "given", "value given to a send, carried by no frame"),
     ("mark", "taken", "value taken from a queue"), ("mark", "lost", "taken, and one before it was lost"),
     ("thin", "good", "marked sent or arrived"), ("thin", "bad", "marked send or receive error"),
     ("bar", "stopped", "layer stopped"), ("line", "started", "start: nothing of before is left"),
@@ -172,6 +172,9 @@ class Page:
             canvas.mark(name, left + 12, middle, None)
         elif kind == "several":
             canvas.mark(name, left + 12, middle + 1, None, 2)
+        elif kind == "dense":
+            for place in range(7):
+                canvas.stroke(name, left + 3 + 3 * place, middle - 5, middle + 5, None)
         elif kind == "line":
             canvas.line(name, left + 1, middle, left + 23, middle)
         else:

@@ -27,7 +27,11 @@ STYLE = f"""
 .journey .given{{fill:#fff;stroke:{MUTED};stroke-width:1.3}}
 .journey .taken{{fill:{BLUE}}}
 .journey .lost{{fill:{WARNING};stroke:#fff;stroke-width:1}}
-.journey .between{{stroke:{BLUE};stroke-width:3;fill:none}}
+.journey .between{{stroke:{BLUE};stroke-width:1.2;fill:none}}
+.journey .dense{{fill:none;stroke-width:1.3;stroke:{DARK}}}
+.journey .dense.no_confirm,.journey .dense.error,.journey .dense.deadline,.journey .dense.lost{{stroke:{WARNING};stroke-width:1.8}}
+.journey .dense.given{{stroke:#a3adb5}}
+.journey .dense.taken{{stroke:{BLUE}}}
 .journey .state{{stroke:{BLUE};stroke-width:1}}
 """
 # By what a bar means: its fill and its outline.
@@ -146,6 +150,13 @@ class Canvas:
         if count > 1:
             self.line("several", x - 4.5, y - 7.5, x + 4.5, y - 7.5)
         self.taken.append(Box(x - REACH, y - REACH - 2, x + REACH, y + REACH))
+
+    def stroke(self, kind, x, top, bottom, tip, count=1):
+        """An upright stroke, at least two pixels long, for some of many marks."""
+        attributes = {"class": f"dense {kind}", "d": f"M{number(x)} {number(min(top, bottom - 2))}V{number(bottom)}"}
+        if count > 1:
+            attributes["data-count"] = count
+        self.add("path", attributes, tip)
 
     def text(self, x, y, words, size, kind="", anchor="start", tip=None):
         """Text that has its room."""

@@ -2,12 +2,13 @@
 from .network import MODES
 from .records import NONE, SEND
 from .report_words import counted, identifier
-from .svg_draw import NORMAL, SMALL, Box, shortened, text_width
+from .svg_draw import NORMAL, SMALL, Box, text_width
 
 NAMES_AT, INDENT, PLOT_AT = 16, 12, 262  # where names and the time's beginning are, from the left
 SCALE_ROOM = 76  # for the least and the greatest value, left of the plot
 NEAR = 5.0  # marks of a kind that are nearer than this are drawn as one
 LABEL_SHIFTS = (0, 12, 24, 36)  # how far a value is written behind its change where something is in the way
+CROWDED, BIN = 10.0, 3.0  # with fewer pixels for each, marks of a kind are drawn as strokes, one for all within a bin
 THIN = 1.0  # spans and changes nearer than this are drawn as one
 
 ENDED = {"confirm": "confirmed", "no_confirm": "not sent", "deadline": "deadline missed", "start": "ended by a start", "end": "open at the end"}
@@ -16,6 +17,11 @@ DELAYED = {"passed": "passed", "confirm": "begun anew by a confirm", "deadline":
 WATCHED = {"indication": "in time", "deadline": "deadline missed", "start": "ended by a start", "end": "waits at the end"}
 EVENTS = {"request": "request", "confirm": "good confirm", "no_confirm": "confirm, not sent", "indication": "good indication",
           "error": "indication, not good", "deadline": "missed deadline"}
+# Where a kind of event is drawn in its lane: a mark's middle, and from where to where strokes go.
+LEVELS = {"request": (12, 5, 17), "confirm": (25.5, 31, 36), "no_confirm": (25.5, 20, 36), "indication": (13, 6, 18), "error": (13, 6, 22),
+          "deadline": (26, 21, 35)}
+TIP_FRAMES = 8
+GIVEN = {"given": "given to a send, and carried by no frame", "taken": "taken by a receive", "lost": "taken by a receive; a value before it was lost"}
 
 
 class Times:
@@ -27,6 +33,16 @@ class Times:
 
     def x(self, at):
         return PLOT_AT + at * self.scale
+
+    def are_many(self, items):
+        return len(items) * CROWDED > self.width
+
+    def near(self, items):
+        """Neighbours that are drawn as one mark or one stroke."""
+        return near(items, lambda item: self.x(item.at), lambda group: self.x(group[0].at), BIN if self.are_many(items) else NEAR)
+
+    def middle(self, group):
+        return (self.x(group[0].at) + self.x(group[-1].at)) / 2
 
     def words(self, begin, end):
         first, last = self.clock.number(begin), self.clock.words(end)
@@ -68,9 +84,8 @@ class IpduLane:
         else:
             self.spans(canvas, self.lane.watched, top + 24, 4, lambda how: ("watched", "deadline" if how == "deadline" else "in_time"),
                        "waits for a frame", WATCHED)
-        levels = {"request": 12, "confirm": 25.5, "no_confirm": 25.5, "indication": 13, "error": 13, "deadline": 26}
-        for what, level in levels.items():
-            self.marks(canvas, what, top + level)
+        for what, (level, above, below) in LEVELS.items():
+            self.marks(canvas, what, top + level, top + above, top + below)
 
     def spans(self, canvas, spans, y, height, kinds, words, endings):
         x = self.times.x
@@ -83,18 +98,21 @@ class IpduLane:
                 kind, fill = kinds(how)
                 canvas.bar(f"bar {kind}", fill, x(first.begin), y, x(last.end), height, tip, len(group))
 
-    def marks(self, canvas, what, y):
+    def marks(self, canvas, what, y, above, below):
         events = [event for event in self.lane.events if event.what == what]
-        x = self.times.x
-        for group in near(events, lambda event: x(event.at), lambda group: x(group[0].at), NEAR):
-            first, last = group[0], group[-1]
-            when = self.times.words(first.at, last.at)
-            if len(group) > 1:
-                frames = "".join(f"; {hex_bytes(event.frame)}" for event in group[:8] if event.frame) + ("; .." if len(group) > 8 and first.frame else "")
-                tip = f"{self.ipdu.name}: {len(group)} of {EVENTS[what]}, {when}{frames}"
+        for group in self.times.near(events):
+            if self.times.are_many(events):
+                canvas.stroke(what, self.times.middle(group), above, below, self.tip(what, group), len(group))
             else:
-                tip = f"{self.ipdu.name}: {EVENTS[what]}, {when}, line {first.line}" + (f": {hex_bytes(first.frame)}" if first.frame else "")
-            canvas.mark(what, (x(first.at) + x(last.at)) / 2, y, tip, len(group))
+                canvas.mark(what, self.times.middle(group), y, self.tip(what, group), len(group))
+
+    def tip(self, what, group):
+        first, last = group[0], group[-1]
+        when = self.times.words(first.at, last.at)
+        if len(group) == 1:
+            return f"{self.ipdu.name}: {EVENTS[what]}, {when}, line {first.line}" + (f": {hex_bytes(first.frame)}" if first.frame else "")
+        frames = "".join(f"; {hex_bytes(event.frame)}" for event in group[:TIP_FRAMES] if event.frame)
+        return f"{self.ipdu.name}: {len(group)} of {EVENTS[what]}, {when}{frames}" + ("; .." if frames and len(group) > TIP_FRAMES else "")
 
 
 class MessageLane:
@@ -157,8 +175,8 @@ class MessageLane:
         ends = [(self.greatest, 4), (self.least, self.body + 4)] if self.greatest > self.least else [(self.least, self.body / 2 + 4)]
         texts = {self.drawn(raw): self.scaling.text(raw) for raw in set(self.reading.raws())}
         for value, down in ends:
-            words = texts[value] if text_width(texts[value], SMALL) <= SCALE_ROOM else f"{value:.4g}"
-            canvas.text(PLOT_AT - 8, top + 6 + down, shortened(words, SMALL, SCALE_ROOM), SMALL, "quiet", "end")
+            words = next((each for each in (texts[value], f"{value:.9g}", f"{value:.6g}") if text_width(each, SMALL) <= SCALE_ROOM), f"{value:.3g}")
+            canvas.text(PLOT_AT - 8, top + 6 + down, words, SMALL, "quiet", "end")
 
     # lines
 
@@ -199,27 +217,31 @@ class MessageLane:
     # dots
 
     def dots(self, canvas, top):
-        x = self.times.x
-        for how in ("given", "taken", "lost"):
+        for how in GIVEN:
             values = [value for value in self.reading.dots if value.how == how]
-            for group in near(values, lambda value: x(value.at), lambda group: x(group[0].at), THIN if self.times.scale > 8 else NEAR):
-                self.dot(canvas, top, how, group)
-        for value in self.reading.dots:
-            if value.how != "given":
-                self.dot_label(canvas, top, value)
+            are_many = self.times.are_many(values)
+            for group in self.times.near(values) if are_many else near(values, self.place_of, lambda group: self.place_of(group[0]), THIN):
+                self.dot(canvas, top, how, group, are_many)
+        for value in [value for value in self.reading.dots if value.how != "given"] if not self.times.are_many(self.reading.dots) else []:
+            self.dot_label(canvas, top, value)
 
-    def dot(self, canvas, top, how, group):
-        words = {"given": "given to a send, in no frame of that call", "taken": "taken by a receive", "lost": "taken by a receive; a value before it was lost"}
-        first, last, x = group[0], group[-1], self.times.x
-        places = [self.y(top, value.raw) for value in group]
-        low, high = min(group, key=lambda value: self.drawn(value.raw)), max(group, key=lambda value: self.drawn(value.raw))
+    def place_of(self, value):
+        return self.times.x(value.at)
+
+    def dot(self, canvas, top, how, group, is_stroke):
+        """A value, or several near each other from the least to the greatest of them."""
+        ordered = sorted(group, key=lambda value: self.drawn(value.raw))
+        low, high = self.y(top, ordered[0].raw), self.y(top, ordered[-1].raw)
+        shown = self.reading.text(ordered[0]) + (f" to {self.reading.text(ordered[-1])}" if ordered[0].raw != ordered[-1].raw else "")
         several = f"{len(group)} values, " if len(group) > 1 else ""
-        shown = self.reading.text(low) + (f" to {self.reading.text(high)}" if low.raw != high.raw else "")
-        middle = (x(first.at) + x(last.at)) / 2
-        if max(places) - min(places) > 2:
-            canvas.line("between", middle, min(places), middle, max(places))
-        canvas.mark(how, middle, (min(places) + max(places)) / 2, f"{self.entry.name}: {several}{shown}, {words[how]}, {self.times.words(first.at, last.at)}",
-                    len(group))
+        tip = f"{self.entry.name}: {several}{shown}, {GIVEN[how]}, {self.times.words(group[0].at, group[-1].at)}"
+        middle = self.times.middle(group)
+        if is_stroke:
+            canvas.stroke(how, middle, high - 1, low + 1, tip, len(group))
+            return
+        if low - high > 2:
+            canvas.line("between", middle, high, middle, low)
+        canvas.mark(how, middle, (low + high) / 2, tip, len(group))
 
     def dot_label(self, canvas, top, value):
         words, y = self.reading.text(value), self.y(top, value.raw)
@@ -230,17 +252,18 @@ class MessageLane:
     # bands of named states
 
     def bands(self, canvas, top):
-        for value in self.reading.dots:
+        for value in self.reading.dots if not self.times.are_many(self.reading.dots) else []:
             canvas.taken.append(Box(self.times.x(value.at) - 4, top, self.times.x(value.at) + 4, top + 6 + self.body))
         shades = {raw: place for place, raw in enumerate(sorted(self.scaling.names))}
         for run in self.reading.lines:
             self.band(canvas, top, run, shades)
-        x = self.times.x
-        for group in near(self.reading.dots, lambda value: x(value.at), lambda group: x(group[0].at), THIN if self.times.scale > 8 else NEAR):
-            middle = (x(group[0].at) + x(group[-1].at)) / 2
+        for group in self.times.near(self.reading.dots):
             names = ", ".join(dict.fromkeys(self.reading.text(value) for value in group))
-            canvas.mark("given", middle, top + 6 + self.body / 2,
-                        f"{self.entry.name}: {names}, given to a send, in no frame of that call, {self.times.words(group[0].at, group[-1].at)}", len(group))
+            tip = f"{self.entry.name}: {names}, {GIVEN['given']}, {self.times.words(group[0].at, group[-1].at)}"
+            if self.times.are_many(self.reading.dots):
+                canvas.stroke("given", self.times.middle(group), top + 2, top + 6, tip, len(group))
+            else:
+                canvas.mark("given", self.times.middle(group), top + 6 + self.body / 2, tip, len(group))
 
     def band(self, canvas, top, run, shades):
         """A piece for each state, with its name where there is room; changes within one pixel are one piece of their own pattern."""
