@@ -5,7 +5,6 @@ nothing outside, has every request, confirm, indication and missed deadline that
 and not on each other. The report's tags are closed, it refers to nothing outside, all frames are in it, and each value in units is what the test's own walk
 over the bits gives. Where chromium and poppler are on the machine, the report is opened and printed with no network. Needs target/bin/drive."""
 import os
-import random
 import re
 import shutil
 import subprocess
@@ -19,8 +18,9 @@ from html.parser import HTMLParser
 
 sys.dont_write_bytecode = True
 TOP = os.path.join(os.path.dirname(os.path.abspath(__file__)), "..")
-sys.path.insert(0, os.path.join(TOP, "tools"))
+sys.path[:0] = [os.path.join(TOP, "tools"), os.path.join(TOP, "tests", "desk")]
 from desk import html, layer, source, svg
+from journeys import Expected, in_units, largest, raw_in, samples_of, time_of, wandering
 
 DRIVE = os.path.join(TOP, "target", "bin", "drive")
 SPACE = "{http://www.w3.org/2000/svg}"
@@ -28,10 +28,19 @@ KINDS = ["request", "confirm", "no_confirm", "indication", "error", "deadline"]
 VOID = {"meta", "br"}
 LEAST_TEXT = 9
 MOST_WIDTH = 2000
-AWKWARD = ["<&\">'", "Überführung der Gemälde, 12 °C", "A " + "very " * 200 + "long title", "W" * 500, "", "tab\tand\nline\x07bell", "貸出品の輸送", "]]>--><!--</svg></style>"]
-SECONDS = 20  # of a browser
+AWKWARD = ["<&\">'", "Überführung der Gemälde, 12 °C", "A " + "very " * 200 + "long title", "W" * 500, "", "tab\tand\nline\x07bell", "貸出品の輸送",
+           "]]>--><!--</svg></style>"]
+SECONDS = 30  # of a browser, at most
+OUTSIDE = re.compile(r"https?:|//|@import|<script|<link|<image|<img|<iframe|<object|\bhref|\bsrc=|<!ENTITY|javascript:")
 IN_A_TIP = 8  # frames that a tip has the bytes of, at most
 LONG = 5000  # ticks
+# Of the van, worked out by hand from its script and what it prints.
+SUMMARY = ["Front humidity: 45.0 to 61.4 %, last 50.1 %, 7 readings sent", "Rear humidity: 45.0 to 59.9 %, last 45.1 %, 7 readings sent",
+           "Door: open and closed, last open, 10 readings sent", "Case light: 200 to 1000 lx, last 200 lx, 10 readings sent",
+           "Shock: 0.07 to 0.08 g, last 0.08 g, 2 readings taken", "Wanted humidity: 51.2 to 55.0 %, last 51.2 %, at least 3 readings arrived",
+           "Front display: 45.0 to 61.4 %, last 50.1 %, at least 6 readings arrived", "Freezer: -21 to -2 °C, last -2 °C, 10 readings sent",
+           "Freezer display: -41 to -21 °C, last -41 °C, at least 2 readings arrived", "Case freezer: -14 to 0 °C, last -14 °C, at least 2 readings arrived",
+           "Humidity: 1 deadline missed", "Case: 6 deadlines missed", "Shock: values were lost, at least 1"]
 
 
 def fail(name, words):
@@ -55,69 +64,6 @@ class Journey:
 
     def fail(self, words):
         fail(self.name, f"{words}; title {self.title[:40]!r}, script {self.script[:200]!r}")
-
-
-# what the test counts itself
-
-class Expected:
-    """Counts of a run, from the calls, the answers and the times in the table alone."""
-
-    def __init__(self, journey):
-        self.records = journey.board.ipdu_records
-        self.counts = Counter()
-        self.frames = []
-        self.left = {}
-        for step in journey.made:
-            if step.status == 0:
-                self.step(step)
-
-    def step(self, step):
-        if step.call == "start":
-            self.left = {k: record.first_deadline or record.deadline for k, record in enumerate(self.records) if record.direction == 2}
-        elif step.call == "tick":
-            self.tick()
-        elif step.call == "confirm":
-            self.counts["confirm" if step.numbers[1] else "no_confirm"] += 1
-            self.left.pop(step.numbers[0])
-        elif step.call == "indication" and step.numbers[1]:
-            self.left[step.numbers[0]] = self.records[step.numbers[0]].deadline
-            self.counts["indication"] += 1
-            self.frames.append((step.line, step.numbers[0], step.frame))
-        elif step.call == "indication":
-            self.counts["error"] += 1
-        for ipdu, frame in step.requests:
-            self.counts["request"] += 1
-            self.frames.append((step.line, ipdu, frame))
-            self.left.setdefault(ipdu, self.records[ipdu].deadline)
-
-    def tick(self):
-        for ipdu, ticks in list(self.left.items()):
-            if ticks == 1:
-                self.counts["deadline"] += 1
-                del self.left[ipdu]
-                if self.records[ipdu].direction == 2:
-                    self.left[ipdu] = self.records[ipdu].deadline
-            elif ticks > 1:
-                self.left[ipdu] = ticks - 1
-
-
-def walked(frame, start, size, big, signed):
-    """A value from its bits, one after the other from bit 0 on."""
-    raw, place = 0, start
-    for bit in range(size):
-        raw += (frame[place // 8] >> place % 8 & 1) << bit
-        place = place + 1 if not big or place % 8 != 7 else place - 15
-    return raw - 2**size if signed and raw >> size - 1 else raw
-
-
-def in_units(message, frame):
-    raw = walked(frame, message["start_bit"], message["size_in_bits"], message.get("byte_order") == "big", message.get("signed", False))
-    names = message.get("values", {})
-    if str(raw) in names:
-        return names[str(raw)]
-    factor, offset = (Decimal(message.get(key, default)) for key, default in (("factor", 1), ("offset", 0)))
-    places = max(0, -factor.normalize().as_tuple().exponent, -offset.normalize().as_tuple().exponent)
-    return f"{raw * factor + offset:.{places}f} {message.get('unit', '')}".strip()
 
 
 # pictures
@@ -161,7 +107,7 @@ def check_references(journey, what, text, root):
         if target[0] != "#" or target[1:] not in ids:
             journey.fail(f"{what} refers to {target}")
     rest = text.replace("xmlns=\"http://www.w3.org/2000/svg\"", "")
-    found = re.search(r"https?:|//|@import|<script|<link|<image|<img|<iframe|<object|\bhref|\bsrc=|<!ENTITY|javascript:", re.sub(r">[^<]*</(?:text|title|h1|td|li|dd)>", "", rest))
+    found = OUTSIDE.search(re.sub(r">[^<]*</(?:text|title|h1|td|li|dd)>", "", rest))
     if found:
         journey.fail(f"{what} has {found[0]!r}")
 
@@ -240,7 +186,7 @@ def check_html(journey, expected, data):
     for one, other in zip(shown, worked_out):
         if one != other:
             journey.fail(f"a frame of the report is {one}, and should be {other}")
-    return sum(len(values) // 2 for *_, values in shown)
+    return sum(len(values) // 2 for *_, values in shown) + check_readings(journey, expected, data, reader.tables)
 
 
 def values_of(board, number, frame, data):
@@ -248,53 +194,37 @@ def values_of(board, number, frame, data):
     for entry in board.objects:
         if entry.record.ipdu == number:
             yield entry.name
-            yield in_units(data["message"][entry.name], frame)
+            yield in_units(data["message"][entry.name], raw_in(data["message"][entry.name], frame))
+
+
+def check_readings(journey, expected, data, tables):
+    """Rows of the readings that are sent or taken, and of the sheet; how many faults and refused calls there are."""
+    refused = sum(step.status != 0 and (step.call, step.status) != ("receive", 3) for step in journey.made)
+    bad = sum(expected.counts[kind] for kind in ("no_confirm", "error", "deadline"))
+    for name, count in (("refused", refused), ("faults", bad)):
+        if max(0, len(tables.get(name, [])) - 1) != count:
+            journey.fail(f"the report's table {name} has not {count} rows")
+    shown = {row[0][0]: row for row in tables["readings"][1:]}
+    sheet = {row[1][0]: row for row in tables.get("sheet", [])[1:]}
+    compared = 0
+    for entry in journey.board.objects:
+        message = data["message"][entry.name]
+        if entry.record.kind == 2 and entry.record.depth == 0:
+            continue
+        samples = samples_of(journey, expected, entry, message)
+        values = [min(samples, key=lambda each: each[1]), max(samples, key=lambda each: each[1]), samples[0], samples[-1]] if samples else []
+        wanted = [[in_units(message, raw, False), time_of(journey, line)] for line, raw in values] or [["-"]] * 4
+        count = int((shown[entry.name][6][0].split()[0]).replace("no", "0").replace(",", ""))
+        if shown[entry.name][1:5] != wanted or count != len(samples):
+            journey.fail(f"the report's row of {entry.name} is {shown[entry.name]}, and should have {wanted} and {len(samples)}")
+        texts = [in_units(message, values[place][1]) for place in (2, 3, 0, 1)] if samples else ["-"] * 4
+        if entry.record.depth and [cell[0] for cell in sheet[entry.name][2:7]] != [f"{len(samples):,}", *texts]:
+            journey.fail(f"the sheet's row of {entry.name} is {sheet[entry.name]}, and should have {len(samples)} and {texts}")
+        compared += 1
+    return compared
 
 
 # journeys
-
-def wandering(board, ticks, seed):
-    """A script of random calls, most of which can be done, with some starts and stops."""
-    chance = random.Random(seed)
-    sent = [entry for entry in board.objects if entry.record.kind == 1]
-    received = [entry for entry in board.objects if entry.record.kind == 2]
-    level = {entry.number: entry.record.initial for entry in sent}
-    lines = ["start", "start_periodic"]
-    for tick in range(ticks):
-        entry = chance.choice(sent)
-        level[entry.number] = (level[entry.number] + chance.randrange(-2, 3)) % 2**entry.record.bits
-        lines.append(f"send {entry.number} {level[entry.number]}")
-        for number, record in enumerate(board.ipdu_records):
-            if record.direction == 1 and chance.random() < 0.6:
-                lines.append(f"confirm {number} {int(chance.random() < 0.9)}")
-            elif record.direction == 2 and chance.random() < 0.25:
-                lines.append(f"indication {number} {int(chance.random() < 0.9)} {chance.randbytes(record.length).hex().upper()}")
-        for entry in received:
-            if chance.random() < 0.3:
-                lines.append(f"receive {entry.number}")
-        lines += [f"clear_marks {chance.randrange(len(board.objects))}"] * (chance.random() < 0.2)
-        lines += ["stop", "tick", "start", "start_periodic"] * (chance.random() < 1 / ticks)
-        lines.append("tick")
-    return "".join(line + "\n" for line in lines)
-
-
-def largest():
-    """A network whose node van has 32 I-PDUs and 128 messages, with awkward words."""
-    lines = ["title = 'Largest'", "tick_ms = 10", "nodes = ['van']", "outside = ['case']"]
-    for k in range(32):
-        lines += [f"[ipdu.Ipdu{k}]", f"id = {0x100 + k}", "size_in_bytes = 8", "comment = '<i> & \"q\" </i>'"]
-        lines += ["sender = 'van'", f"transmission_mode = '{['direct', 'mixed'][k // 2 % 2]}'", "deadline_ms = 50"] if k % 2 == 0 else []
-        lines += ["time_period_ms = 70"] if k % 4 == 2 else []
-        lines += ["sender = 'case'", "deadline_ms = 50", "receiver.van = { deadline_ms = 60 }"] if k % 2 else []
-        for part in range(4):
-            name = f"Message{k}_{part}" + "_with_a_long_name_that_has_no_room" * (part == 3)
-            lines += [f"[message.{name}]", f"ipdu = 'Ipdu{k}'", f"start_bit = {16 * part + (8 if part == 1 else 0)}", f"size_in_bits = {2 if part == 2 else 16}"]
-            lines += [["factor = 0.25", "unit = '<&>'"], ["byte_order = 'big'", "signed = true", "unit = '°C'"],
-                      ["values = { 0 = '</text>', 1 = 'öffnet & schließt', 2 = 'auf', 3 = 'a state with a name of many words' }"],
-                      ["factor = 0.000001", "offset = -40", "unit = 'a long unit'"]][part]
-            lines += ["receiver.van = { queue_size = 4 }"] if k % 2 and part % 2 else []
-    return "\n".join(lines) + "\n"
-
 
 def board_of(file, node):
     return next(board for board in source.load(file).boards() if board.node == node)
@@ -324,6 +254,9 @@ def check_van(journey):
     printed = layer.drive(DRIVE, journey.board.table, journey.script)
     if printed != contents("examples", "van.stdout"):
         journey.fail("drive does not print examples/van.stdout")
+    summary = re.findall("<li>(.*)</li>", journey.html)
+    if summary != SUMMARY:
+        journey.fail(f"the summary is {summary}")
     if journey.svg != contents("docs", "van.svg"):
         journey.fail("docs/van.svg is not what is made now: make it anew with 'tools/journey'")
 
@@ -338,7 +271,8 @@ def browsed(journey, folder):
     page, pdf = os.path.join(folder, "report.html"), os.path.join(folder, "report.pdf")
     with open(page, "w", encoding="utf-8") as output:
         output.write(journey.html)
-    common = ["chromium", "--headless", "--no-sandbox", "--disable-gpu", "--host-resolver-rules=MAP * ~NOTFOUND", f"--user-data-dir={folder}/profile"]
+    common = ["chromium", "--headless", "--no-sandbox", "--disable-gpu", "--disable-dev-shm-usage", "--host-resolver-rules=MAP * ~NOTFOUND",
+              f"--user-data-dir={folder}/profile"]
     seen = output_of(journey, [*common, "--dump-dom", f"file://{page}"])
     lacking = [words for words in ("<h1>Climate van</h1>", "</svg>", "45.0 to 61.4 %", "</html>") if words not in seen]
     output_of(journey, [*common, "--no-pdf-header-footer", f"--print-to-pdf={pdf}", f"file://{page}"])
@@ -361,7 +295,7 @@ def main():
     if not os.path.exists(DRIVE):
         sys.exit("desk_pictures.py: target/bin/drive is missing: run 'rt check drive' first")
     found, values, count, said = Counter(), 0, 0, ""
-    with tempfile.TemporaryDirectory() as folder:
+    with tempfile.TemporaryDirectory(ignore_cleanup_errors=True) as folder:
         for journey, data in all_journeys(folder):
             expected = Expected(journey)
             found += check_svg(journey, expected)

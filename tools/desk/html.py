@@ -91,7 +91,7 @@ def sentence(reading):
     """A reading in plain words."""
     name, scaling = spaced(reading.entry.name), reading.entry.scaling
     if not reading.samples:
-        return f"{name}: no reading {parts.how(reading)[0]}"
+        return f"{name}: {parts.tally(reading)}"
     raws = dict.fromkeys(value.raw for value in reading.samples)
     least, greatest = reading.extremes()
     if all(raw in scaling.names for raw in raws):
@@ -100,7 +100,7 @@ def sentence(reading):
         span = f"{reading.text(least)} throughout"
     else:
         span = f"{parts.without_unit(scaling, least.raw)} to {reading.text(greatest)}"
-    return f"{name}: {span}, last {reading.text(reading.samples[-1])}, {counted(len(reading.samples), 'reading')} {parts.how(reading)[0]}"
+    return f"{name}: {span}, last {reading.text(reading.samples[-1])}, {parts.tally(reading)}"
 
 
 def summary(board, scene_readings, journey_lanes, made):
@@ -108,7 +108,8 @@ def summary(board, scene_readings, journey_lanes, made):
     lines = [sentence(reading) for reading in scene_readings]
     lines += [f"{spaced(board.ipdu_name(number))}: {counted(count, 'deadline')} missed" for number, count in missed.items()]
     lines += [] if missed else ["No deadline was missed"]
-    lines += [f"{spaced(board.object_name(number))}: values were lost, at least {count}" for number, count in Counter(step.numbers[0] for step in lost(made)).items()]
+    overflows = Counter(step.numbers[0] for step in lost(made))
+    lines += [f"{spaced(board.object_name(number))}: values were lost, at least {count}" for number, count in overflows.items()]
     return "<ul class=\"summary\">\n" + "".join(f"<li>{escaped(line)}</li>\n" for line in lines) + "</ul>\n"
 
 

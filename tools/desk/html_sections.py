@@ -44,12 +44,12 @@ def shown_at(reading, value, clock):
     return Markup(f"<b>{escaped(without_unit(reading.entry.scaling, value.raw))}</b> <small>at {escaped(clock.words(value.at))}</small>")
 
 
-HOW = {"carried": ("sent", "frame sent", "frames sent"), "held": ("seen to arrive", "arrival seen", "arrivals seen"), "taken": ("taken", "value taken", "values taken")}
-
-
-def how(reading):
-    """How values of this kind are told: as carried, held or taken."""
-    return HOW["carried" if reading.is_sent else "taken" if reading.is_queued else "held"]
+def tally(reading):
+    """How many readings there were. Of what the layer holds a second arrival of the same value may not be seen."""
+    verb = "sent" if reading.is_sent else "taken" if reading.is_queued else "arrived"
+    if not reading.samples:
+        return f"no reading {verb}"
+    return ("at least " if verb == "arrived" else "") + f"{counted(len(reading.samples), 'reading')} {verb}"
 
 
 def reading_rows(readings, clock):
@@ -57,10 +57,10 @@ def reading_rows(readings, clock):
     for reading in readings:
         name = Markup(f"{escaped(reading.entry.name)}" + (f"<br><small>{escaped(reading.entry.of.comment)}</small>" if reading.entry.of.comment else ""))
         if not reading.samples:
-            rows.append([name, "-", "-", "-", "-", reading.entry.scaling.unit, counted(0, *how(reading)[1:])])
+            rows.append([name, "-", "-", "-", "-", reading.entry.scaling.unit, tally(reading)])
             continue
         values = [*reading.extremes(), reading.samples[0], reading.samples[-1]]
-        rows.append([name, *(shown_at(reading, value, clock) for value in values), reading.entry.scaling.unit, counted(len(reading.samples), *how(reading)[1:])])
+        rows.append([name, *(shown_at(reading, value, clock) for value in values), reading.entry.scaling.unit, tally(reading)])
     return rows
 
 
@@ -107,9 +107,10 @@ def place_words(board, entry):
 
 def meaning_words(scaling):
     names = ", ".join(f"{raw} is {name}" for raw, name in scaling.names.items())
-    offset = f" + {plain(scaling.offset)}" if scaling.offset else ""
-    scale = f"raw * {plain(scaling.factor)}{offset} {scaling.unit}".rstrip() if scaling.factor != 1 or scaling.offset else scaling.unit
-    return "; ".join(words for words in (scale, names) if words)
+    offset = f" {'-' if scaling.offset < 0 else '+'} {plain(abs(scaling.offset))}" if scaling.offset else ""
+    scale = f"raw value * {plain(scaling.factor)}{offset}" if scaling.factor != 1 or scaling.offset else ""
+    unit = f"in {scaling.unit}" if scaling.unit else ""
+    return "; ".join(words for words in (", ".join(words for words in (scale, unit) if words), names) if words)
 
 
 def behaviour_words(entry):
@@ -120,7 +121,8 @@ def behaviour_words(entry):
 
 
 def message_table(board):
-    rows = [[entry.number, entry.name, place_words(board, entry), meaning_words(entry.scaling), behaviour_words(entry), entry.of.comment] for entry in board.objects]
+    rows = [[entry.number, entry.name, place_words(board, entry), meaning_words(entry.scaling), behaviour_words(entry), entry.of.comment]
+            for entry in board.objects]
     return table("messages", ["number", "message", "place", "meaning", "behaviour", "comment"], rows, "The node has no messages.")
 
 
@@ -165,7 +167,8 @@ def refused_table(made, clock):
 def frames(lanes):
     """(time, line, direction, I-PDU's number, bytes) of all frames, in the order of the calls."""
     directions = {"request": "sent", "indication": "received"}
-    return sorted((event.at, event.line, directions[event.what], lane.number, event.frame) for lane in lanes for event in lane.events if event.what in directions)
+    return sorted((event.at, event.line, directions[event.what], lane.number, event.frame) for lane in lanes for event in lane.events
+                  if event.what in directions)
 
 
 def frame_table(board, lanes, clock):

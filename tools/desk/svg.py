@@ -13,13 +13,14 @@ RIGHT = 26
 HEAD, AXIS, LAYER, GAP, FOOT = 56, 22, 26, 8, 14
 AXIS_STEP = 84  # pixels between two labels of the axis, at least
 AXIS_AGAIN = 900  # pixels after which the axis is drawn again
-LEGEND_LINE, LEGEND_LINES = 22, 4
+LEGEND_LINE = 22
 PAGE_RATIO = 0.64  # of a landscape page, height by width
 LEGEND = [
     ("mark", "request", "request"), ("mark", "confirm", "good confirm"), ("mark", "no_confirm", "not sent, or a bad indication"),
-    ("mark", "indication", "good indication"), ("mark", "deadline", "deadline missed"), ("several", "request", "several in one place"), ("dense", "request", "very many: a stroke for some of them"),
-    ("bar", "confirm", "request open until it is confirmed"), ("bar", "no_confirm", "until it is not sent"), ("bar", "deadline", "until its deadline is missed"),
-    ("bar", "start", "until a start"), ("bar", "end", "open at the end"), ("bar", "delay", "minimum delay"), ("thin", "in_time", "a frame is waited for"), ("thin", "deadline", "in vain"),
+    ("mark", "indication", "good indication"), ("mark", "deadline", "deadline missed"), ("several", "request", "several in one place"),
+    ("dense", "request", "very many: a stroke for some of them"), ("bar", "confirm", "request open until it is confirmed"),
+    ("bar", "no_confirm", "until it is not sent"), ("bar", "deadline", "until its deadline is missed"), ("bar", "start", "until a start"),
+    ("bar", "end", "open at the end"), ("bar", "delay", "minimum delay"), ("thin", "in_time", "a frame is waited for"), ("thin", "deadline", "in vain"),
     ("line", "value", "value carried by frames, or held"), ("mark", "given", "value given to a send, carried by no frame"),
     ("mark", "taken", "value taken from a queue"), ("mark", "lost", "taken, and one before it was lost"),
     ("thin", "good", "marked sent or arrived"), ("thin", "bad", "marked send or receive error"),
@@ -110,8 +111,8 @@ class Page:
     def whole(self, height):
         scene = self.scene
         width = scene.width
-        description = (f"Node {scene.board.node}, {counted(len(scene.made), 'call')} in {scene.clock.length()}: I-PDUs with requests, confirms, indications and "
-                       f"deadlines, and each message's values and marks, over time.")
+        description = (f"Node {scene.board.node}, {counted(len(scene.made), 'call')} in {scene.clock.length()}: I-PDUs with requests, confirms, indications "
+                       "and deadlines, and each message's values and marks, over time.")
         return (f"<svg xmlns=\"http://www.w3.org/2000/svg\" class=\"journey\" viewBox=\"0 0 {width:g} {height:g}\" width=\"{width:g}\" height=\"{height:g}\" "
                 f"role=\"img\"><title>{escaped(self.title)}</title><desc>{escaped(description)}</desc>\n"
                 + (definitions() if self.has_definitions else "") + f"<rect width=\"{width:g}\" height=\"{height:g}\" fill=\"#fff\"/>\n"
@@ -192,24 +193,23 @@ def shared_out(groups, room):
     """Groups in lists whose lanes are together no higher than `room`; a group that is higher by itself is cut."""
     pages, used = [[]], 0
     for group in groups:
-        for lane in [None, *group]:
-            height = sum(each.height for each in group) + GAP if lane is None else lane.height
-            if lane is None:
-                if used and used + height > room:
-                    pages, used = [*pages, []], 0
-                pages[-1].append([])
-                used += GAP
-                continue
-            if used > GAP and used + height > room:
-                pages, used = [*pages, [[]]], GAP
+        if used and used + GAP + sum(lane.height for lane in group) > room:
+            pages.append([])
+            used = 0
+        pages[-1].append([])
+        used += GAP
+        for lane in group:
+            if pages[-1][-1] and used + lane.height > room:
+                pages.append([[]])
+                used = GAP
             pages[-1][-1].append(lane)
-            used += height
+            used += lane.height
     return pages
 
 
 def pictures(scene, title):
     """The picture in SVGs for the pages of one HTML file: the first has style and patterns for all, the last the legend."""
-    room = scene.width * PAGE_RATIO - (HEAD + 2 * AXIS + LAYER + GAP + 2 * FOOT + LEGEND_LINES * LEGEND_LINE)
+    room = scene.width * PAGE_RATIO - (HEAD + 2 * AXIS + LAYER + GAP + FOOT)
     pages = shared_out(scene.groups, room)
     last = len(pages) - 1
     return [Page(scene, f"{title}, picture {place + 1} of {last + 1}" if last else title, place == last, place == 0).text(groups)

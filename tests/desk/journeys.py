@@ -1,0 +1,125 @@
+"""For tests of pictures and reports: scripts and a network to draw, and what the tests work out of a run themselves, from calls, answers and table."""
+import random
+from collections import Counter
+from decimal import Decimal
+
+
+class Expected:
+    """Counts of a run, from the calls, the answers and the times in the table alone."""
+
+    def __init__(self, journey):
+        self.records = journey.board.ipdu_records
+        self.counts = Counter()
+        self.frames = []
+        self.left = {}
+        for step in journey.made:
+            if step.status == 0:
+                self.step(step)
+
+    def step(self, step):
+        if step.call == "start":
+            self.left = {k: record.first_deadline or record.deadline for k, record in enumerate(self.records) if record.direction == 2}
+        elif step.call == "tick":
+            self.tick()
+        elif step.call == "confirm":
+            self.counts["confirm" if step.numbers[1] else "no_confirm"] += 1
+            self.left.pop(step.numbers[0])
+        elif step.call == "indication" and step.numbers[1]:
+            self.left[step.numbers[0]] = self.records[step.numbers[0]].deadline
+            self.counts["indication"] += 1
+            self.frames.append((step.line, step.numbers[0], step.frame))
+        elif step.call == "indication":
+            self.counts["error"] += 1
+        for ipdu, frame in step.requests:
+            self.counts["request"] += 1
+            self.frames.append((step.line, ipdu, frame))
+            self.left.setdefault(ipdu, self.records[ipdu].deadline)
+
+    def tick(self):
+        for ipdu, ticks in list(self.left.items()):
+            if ticks == 1:
+                self.counts["deadline"] += 1
+                del self.left[ipdu]
+                if self.records[ipdu].direction == 2:
+                    self.left[ipdu] = self.records[ipdu].deadline
+            elif ticks > 1:
+                self.left[ipdu] = ticks - 1
+
+
+def walked(frame, start, size, big, signed):
+    """A value from its bits, one after the other from bit 0 on."""
+    raw, place = 0, start
+    for bit in range(size):
+        raw += (frame[place // 8] >> place % 8 & 1) << bit
+        place = place + 1 if not big or place % 8 != 7 else place - 15
+    return raw - 2**size if signed and raw >> size - 1 else raw
+
+
+def raw_in(message, frame):
+    return walked(frame, message["start_bit"], message["size_in_bits"], message.get("byte_order") == "big", message.get("signed", False))
+
+
+def in_units(message, raw, with_unit=True):
+    names = message.get("values", {})
+    if str(raw) in names:
+        return names[str(raw)]
+    factor, offset = (Decimal(message.get(key, default)) for key, default in (("factor", 1), ("offset", 0)))
+    places = max(0, -factor.normalize().as_tuple().exponent, -offset.normalize().as_tuple().exponent)
+    return f"{raw * factor + offset:.{places}f} {message.get('unit', '') if with_unit else ''}".strip()
+
+
+def samples_of(journey, expected, entry, message):
+    """(line, raw value) of each frame with a sent message, or of each receive of a queued one; nothing for others."""
+    if entry.record.kind == 1:
+        return [(line, raw_in(message, frame)) for line, ipdu, frame in expected.frames if ipdu == entry.record.ipdu]
+    return [(step.line, step.value) for step in journey.made if step.call == "receive" and step.numbers[0] == entry.number and step.value is not None]
+
+
+def time_of(journey, line):
+    """The ticks up to a line, as time."""
+    tick, ticks = journey.board.network.tick, [step.line for step in journey.made if step.call == "tick"]
+    unit, step = ("s", tick / 1000) if (len(ticks) + 1) * tick > 2000 else ("ms", tick)
+    return f"at {sum(other <= line for other in ticks) * step.normalize():f} {unit}"
+
+
+def wandering(board, ticks, seed):
+    """A script of random calls, most of which can be done, with some starts and stops."""
+    chance = random.Random(seed)
+    sent = [entry for entry in board.objects if entry.record.kind == 1]
+    received = [entry for entry in board.objects if entry.record.kind == 2]
+    level = {entry.number: entry.record.initial for entry in sent}
+    lines = ["start", "start_periodic"]
+    for tick in range(ticks):
+        entry = chance.choice(sent)
+        level[entry.number] = (level[entry.number] + chance.randrange(-2, 3)) % 2**entry.record.bits
+        lines.append(f"send {entry.number} {level[entry.number]}")
+        for number, record in enumerate(board.ipdu_records):
+            if record.direction == 1 and chance.random() < 0.6:
+                lines.append(f"confirm {number} {int(chance.random() < 0.9)}")
+            elif record.direction == 2 and chance.random() < 0.25:
+                lines.append(f"indication {number} {int(chance.random() < 0.9)} {chance.randbytes(record.length).hex().upper()}")
+        for entry in received:
+            if chance.random() < 0.3:
+                lines.append(f"receive {entry.number}")
+        lines += [f"clear_marks {chance.randrange(len(board.objects))}"] * (chance.random() < 0.2)
+        lines += ["stop", "tick", "start", "start_periodic"] * (chance.random() < 1 / ticks)
+        lines.append("tick")
+    return "".join(line + "\n" for line in lines)
+
+
+def largest():
+    """A network whose node van has 32 I-PDUs and 128 messages, with awkward words."""
+    lines = ["title = 'Largest'", "tick_ms = 10", "nodes = ['van']", "outside = ['case']"]
+    for k in range(32):
+        lines += [f"[ipdu.Ipdu{k}]", f"id = {0x100 + k}", "size_in_bytes = 8", "comment = '<i> & \"q\" </i>'"]
+        lines += ["sender = 'van'", f"transmission_mode = '{['direct', 'mixed'][k // 2 % 2]}'", "deadline_ms = 50"] if k % 2 == 0 else []
+        lines += ["time_period_ms = 70"] if k % 4 == 2 else []
+        lines += ["sender = 'case'", "deadline_ms = 50", "receiver.van = { deadline_ms = 60 }"] if k % 2 else []
+        for part in range(4):
+            name = f"Message{k}_{part}" + "_with_a_long_name_that_has_no_room" * (part == 3)
+            lines += [f"[message.{name}]", f"ipdu = 'Ipdu{k}'", f"start_bit = {16 * part + (8 if part == 1 else 0)}", f"size_in_bits = {2 if part == 2 else 16}"]
+            lines += [["factor = 0.25", "unit = '<&>'"], ["byte_order = 'big'", "signed = true", "unit = '°C'"],
+                      ["values = { 0 = '</text>', 1 = 'öffnet & schließt', 2 = 'auf', 3 = 'a state with a name of many words' }"],
+                      ["factor = 0.000001", "offset = -40", "unit = 'a long unit'"]][part]
+            lines += ["receiver.van = { queue_size = 4 }"] if k % 2 and part % 2 else []
+    return "\n".join(lines) + "\n"
