@@ -20,6 +20,7 @@ sys.dont_write_bytecode = True
 TOP = os.path.join(os.path.dirname(os.path.abspath(__file__)), "..")
 sys.path[:0] = [os.path.join(TOP, "tools"), os.path.join(TOP, "tests", "desk")]
 from desk import html, layer, source, svg
+from desk.report_words import unread_line
 from journeys import Expected, in_units, largest, raw_in, samples_of, time_of, wandering
 
 DRIVE = os.path.join(TOP, "target", "bin", "drive")
@@ -40,7 +41,7 @@ SUMMARY = ["Front humidity: 45.0 to 61.4 %, last 50.1 %, 7 readings sent", "Rear
            "Shock: 0.07 to 0.08 g, last 0.08 g, 2 readings taken", "Wanted humidity: 51.2 to 55.0 %, last 51.2 %, at least 3 readings arrived",
            "Front display: 45.0 to 61.4 %, last 50.1 %, at least 6 readings arrived", "Freezer: -21 to -2 °C, last -2 °C, 10 readings sent",
            "Freezer display: -41 to -21 °C, last -41 °C, at least 2 readings arrived", "Case freezer: -14 to 0 °C, last -14 °C, at least 2 readings arrived",
-           "Humidity: 1 deadline missed", "Case: 6 deadlines missed", "Shock: values were lost, at least 1"]
+           "I-PDU Humidity: 1 deadline missed", "I-PDU Case: 6 deadlines missed", "Shock: values were lost, at least 1"]
 
 
 def fail(name, words):
@@ -59,8 +60,8 @@ class Journey:
         self.name, self.board, self.script, self.title = name, board, script, title
         self.made, self.states = layer.played(board, script, name)
         self.svg = svg.svg(board, self.made, self.states, title)
-        lines = script.count("\n")
-        self.html = html.html(board, self.made, self.states, title, len(self.made) + 1 if len(self.made) < lines else None)
+        self.unread = unread_line(script, self.made)
+        self.html = html.html(board, self.made, self.states, title, self.unread)
 
     def fail(self, words):
         fail(self.name, f"{words}; title {self.title[:40]!r}, script {self.script[:200]!r}")
@@ -177,6 +178,9 @@ def check_html(journey, expected, data):
     if twice:
         journey.fail(f"the report has {twice} as an id twice")
     check_references(journey, "the report", journey.html, None)
+    cut = re.findall("ends at line ([0-9]+), which", journey.html)
+    if cut != (["3"] if journey.title == "Cut" else []):
+        journey.fail(f"the report says of lines that can't be read: {cut}")
     rows = reader.tables.get("frames", [[]])[1:]
     if len(rows) != len(expected.frames):
         journey.fail(f"the report has {len(rows)} frames, the run {len(expected.frames)}")

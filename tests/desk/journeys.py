@@ -117,7 +117,7 @@ def largest():
         lines += ["sender = 'case'", "deadline_ms = 50", "receiver.van = { deadline_ms = 60 }"] if k % 2 else []
         for part in range(4):
             name = f"Message{k}_{part}" + "_with_a_long_name_that_has_no_room" * (part == 3)
-            lines += [f"[message.{name}]", f"ipdu = 'Ipdu{k}'", f"start_bit = {16 * part + (8 if part == 1 else 0)}", f"size_in_bits = {2 if part == 2 else 16}"]
+            lines += [f"[message.{name}]", f"ipdu = 'Ipdu{k}'", f"start_bit = {24 if part == 1 else 16 * part}", f"size_in_bits = {2 if part == 2 else 16}"]
             lines += [["factor = 0.25", "unit = '<&>'"], ["byte_order = 'big'", "signed = true", "unit = '°C'"],
                       ["values = { 0 = '</text>', 1 = 'öffnet & schließt', 2 = 'auf', 3 = 'a state with a name of many words' }"],
                       ["factor = 0.000001", "offset = -40", "unit = 'a long unit'"]][part]

@@ -2,7 +2,7 @@
 from collections import Counter
 
 from . import html_sections as parts
-from .report_words import counted, escaped, lost, refusal, spaced
+from .report_words import counted, escaped, lost, refusal, spaced, titled
 from .svg import Scene, pictures
 from .timeline import lanes
 
@@ -106,7 +106,7 @@ def sentence(reading):
 def summary(board, scene_readings, journey_lanes, made):
     missed = Counter(lane.number for lane in journey_lanes for event in lane.events if event.what == "deadline")
     lines = [sentence(reading) for reading in scene_readings]
-    lines += [f"{spaced(board.ipdu_name(number))}: {counted(count, 'deadline')} missed" for number, count in missed.items()]
+    lines += [f"I-PDU {board.ipdu_name(number)}: {counted(count, 'deadline')} missed" for number, count in missed.items()]
     lines += [] if missed else ["No deadline was missed"]
     overflows = Counter(step.numbers[0] for step in lost(made))
     lines += [f"{spaced(board.object_name(number))}: values were lost, at least {count}" for number, count in overflows.items()]
@@ -120,7 +120,7 @@ def picture_section(scene, title):
 
 def html(board, made, states, title, unread=None):
     """The report. `unread` is the number of the script's line that can't be read, where the run ended at one."""
-    scene = Scene(board, made, states)
+    title, scene = titled(title), Scene(board, made, states)
     clock, journey_lanes = scene.clock, lanes(board, made, float(scene.clock.ticks))
     refused = sum(not step.is_done for step in made)
     sections = [

@@ -138,18 +138,18 @@ def bits_pictures(board):
 
 # what happened
 
-def faults(board, lanes):
-    """(time, line, what, I-PDU's number) of missed deadlines and errors, in the order of time."""
+def faults(lanes):
+    """(time, line, I-PDU's number, what) of missed deadlines and errors, in the order of time."""
     words = {(True, "deadline"): "deadline missed: a request was not confirmed in time", (False, "deadline"): "deadline missed: no frame came in time",
              (True, "no_confirm"): "not sent, as its confirm says", (False, "error"): "received with an error"}
-    found = [(event.at, event.line, words[key], lane.number) for lane in lanes for event in lane.events
+    found = [(event.at, event.line, lane.number, words[key]) for lane in lanes for event in lane.events
              for key in [(lane.record.direction == SEND, event.what)] if key in words]
     return sorted(found)
 
 
 def fault_table(board, lanes, clock):
     rows = [[clock.words(at), line, board.ipdu_name(number), what, ", ".join(entry.name for entry in board.carried(number))]
-            for at, line, what, number in faults(board, lanes)]
+            for at, line, number, what in faults(lanes)]
     return table("faults", ["time", "line", "I-PDU", "what", "messages"], rows, "No deadline was missed, and no frame was wrong.")
 
 
@@ -179,4 +179,4 @@ def frame_table(board, lanes, clock):
                          for entry in carried[number])
         rows.append([clock.words(at), line, direction, identifier(board.ipdus[number]), board.ipdus[number].name,
                      Markup(f"<code>{frame.hex(' ').upper()}</code>"), Markup(values.rstrip())])
-    return table("frames", ["time", "line", "", "identifier", "I-PDU", "bytes", "values"], rows, "No frame was sent or received.")
+    return table("frames", ["time", "line", "direction", "identifier", "I-PDU", "bytes", "values"], rows, "No frame was sent or received.")

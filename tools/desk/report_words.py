@@ -16,17 +16,27 @@ REFUSALS = {
 }
 MARKS = {1: "arrived", 2: "sent", 4: "receive error", 8: "send error"}
 MOST_MILLISECONDS = 2000  # a longer journey is shown in seconds
-NOT_XML = re.compile("[^\t\n\r\x20-\ud7ff\ue000-\ufffd\U00010000-\U0010ffff]")
+FORBIDDEN = re.compile("[^\t\n\r\x20-\x7e\xa0-\ud7ff\ue000-\ufffd\U00010000-\U0010ffff]")  # by XML or by HTML
 
 
 def clean(text):
-    """On one line, and with no character that XML forbids."""
-    return " ".join(NOT_XML.sub("\ufffd", text).split())
+    """On one line, and with no character that XML or HTML forbids."""
+    return " ".join(FORBIDDEN.sub("\ufffd", text).split())
 
 
 def escaped(text):
     """Text for XML or HTML, also inside a quoted attribute."""
     return escape(clean(str(text)))
+
+
+def titled(title):
+    """A title, also where there is none."""
+    return clean(title) or "Journey"
+
+
+def unread_line(script, made):
+    """The number of the line that ended a run because it can't be read, or None where all lines were made."""
+    return None if script.split("\n")[len(made):] == [""] else len(made) + 1
 
 
 def counted(count, one, many=None):

@@ -3,15 +3,16 @@ import math
 
 from .network import NONE
 from .readings import layer_spans, mark_spans, readings
-from .report_words import Clock, clean, counted, escaped
+from .report_words import Clock, counted, escaped, titled
 from .svg_draw import LARGE, NORMAL, SMALL, Canvas, definitions, shortened, text_width
-from .svg_lanes import NAMES_AT, PLOT_AT, IpduLane, MessageLane, Times
+from .svg_lanes import NAMES_AT, PLOT_AT, THIN, IpduLane, MessageLane, Times, near
 from .timeline import lanes
 
 TICK_WIDTH, LEAST_WIDTH, MOST_WIDTH = 30, 760, 1700  # pixels of a tick, and of the plot
 RIGHT = 26
 HEAD, AXIS, LAYER, GAP, FOOT = 56, 22, 26, 8, 14
 AXIS_STEP = 84  # pixels between two labels of the axis, at least
+ROUNDING = 1e-9  # what a float may be off
 AXIS_AGAIN = 900  # pixels after which the axis is drawn again
 LEGEND_LINE = 22
 PAGE_RATIO = 0.64  # of a landscape page, height by width
@@ -54,26 +55,30 @@ class Scene:
         return result
 
 
-def axis_step(clock, scale):
-    """A rounded distance of labels, in the clock's unit: 1, 2 or 5 with zeros, no less than a tick."""
-    least = max(float(clock.step) * AXIS_STEP / scale, float(clock.step))
+def axis_steps(least):
+    """Rounded distances of labels, from `least` on: 1, 2 or 5 with zeros."""
     power = 10.0 ** math.floor(math.log10(least))
-    return next(power * factor for factor in (1, 2, 5, 10) if power * factor >= least * (1 - 1e-9))
+    while True:
+        yield from (power * factor for factor in (1, 2, 5) if power * factor >= least * (1 - ROUNDING))
+        power *= 10
 
 
 def axis_labels(clock, scale):
-    """(time in ticks, words) of the axis."""
-    step = axis_step(clock, scale)
-    decimals = max(0, -math.floor(math.log10(step) + 1e-9))
-    count = int(clock.ticks * float(clock.step) / step + 1e-9)
-    return [(place * step / float(clock.step), f"{place * step:.{decimals}f}") for place in range(count + 1)]
+    """(time in ticks, words) of the axis: as near as there is room for the words, but not nearer than ticks."""
+    tick = float(clock.step)
+    for step in axis_steps(tick):
+        decimals = max(0, -math.floor(math.log10(step) + ROUNDING))
+        count = int(clock.ticks * tick / step + ROUNDING)
+        labels = [(0.0, "0"), *((place * step / tick, f"{place * step:.{decimals}f}") for place in range(1, count + 1))]
+        if step / tick * scale >= max(AXIS_STEP, text_width(labels[-1][1], SMALL) + LEGEND_LINE):
+            return labels
 
 
 class Page:
     """One SVG with some of a scene's groups."""
 
     def __init__(self, scene, title, has_legend=True, has_definitions=True):
-        self.scene, self.title = scene, clean(title) or "Journey"
+        self.scene, self.title = scene, titled(title)
         self.has_legend, self.has_definitions = has_legend, has_definitions
         self.canvas = Canvas()
         self.labels = axis_labels(scene.clock, scene.times.scale)
@@ -127,11 +132,14 @@ class Page:
         self.canvas.text(NAMES_AT, 45, shortened(words, NORMAL, scene.width - NAMES_AT - RIGHT), NORMAL, "quiet")
 
     def grid(self, top, bottom):
+        """The lines of the axis, and a line for each start; very many starts cross the layer's band alone."""
         x = self.scene.times.x
         for at, _ in self.labels:
             self.canvas.line("grid", x(at), top, x(at), bottom)
-        for step in self.scene.starts:
-            self.canvas.line("started", x(step.at), top, x(step.at), bottom, f"start, {self.scene.clock.words(step.at)}, line {step.line}")
+        for group in near(self.scene.starts, lambda step: x(step.at), lambda group: x(group[0].at), THIN):
+            words = f"start, line {group[0].line}" if len(group) == 1 else f"{len(group)} starts"
+            low = top + LAYER if self.scene.times.are_many(self.scene.starts) else bottom
+            self.canvas.line("started", x(group[0].at), top, x(group[0].at), low, f"{words}, {self.scene.times.words(group[0].at, group[-1].at)}")
 
     def axis(self, canvas, top):
         """The times, and their unit in front of them."""
@@ -147,7 +155,7 @@ class Page:
     def layer(self, top):
         canvas, x = self.canvas, self.scene.times.x
         canvas.text(NAMES_AT, top + 16, "Layer", NORMAL, "strong")
-        for span in self.scene.spans:
+        for span in sorted(self.scene.spans, key=lambda span: span.how):
             left, right = x(span.begin), x(span.end)
             canvas.bar("layer", span.how, left, top + 4, right, LAYER - 8, f"layer {span.how}, {self.scene.times.words(span.begin, span.end)}")
             if text_width(span.how, SMALL) + 10 <= right - left:

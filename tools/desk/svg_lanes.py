@@ -1,5 +1,6 @@
 """The lanes of a picture: one for each I-PDU and one for each message. A lane knows its height, and draws itself at a place of a canvas."""
 from .network import MODES
+from .readings import Run
 from .records import NONE, SEND
 from .report_words import counted, identifier
 from .svg_draw import NORMAL, SMALL, Box, text_width
@@ -127,16 +128,17 @@ class MessageLane:
         self.is_band = bool(raws) and bool(reading.lines) and all(raw in self.scaling.names for raw in raws)
         self.body = 17 if self.is_band or not raws else 34
         self.height = 6 + self.body + 4 + 2 * self.strip + 6
-        self.least, self.greatest = (self.drawn(min(raws, key=self.drawn)), self.drawn(max(raws, key=self.drawn))) if raws else (0.0, 0.0)
+        self.least, self.greatest = (min(raws, key=self.drawn), max(raws, key=self.drawn)) if raws else (0, 0)
         good, bad = ("sent", "send error") if reading.is_sent else ("arrived", "receive error")
         self.strips = [(good, "good", marks[good]), (bad, "bad", marks[bad])]
 
     def drawn(self, raw):
-        return float(self.scaling.physical(raw))
+        """What orders values as their meanings do."""
+        return raw if self.scaling.factor > 0 else -raw
 
     def y(self, top, raw):
         """The place of a value; one that is all there is lies in the middle."""
-        part = (self.drawn(raw) - self.least) / (self.greatest - self.least) if self.greatest > self.least else 0.5
+        part = (raw - self.least) / (self.greatest - self.least) if self.greatest != self.least else 0.5
         return top + 6 + self.body * (1 - part)
 
     def kind(self):
@@ -160,7 +162,7 @@ class MessageLane:
         else:
             self.scale_ends(canvas, top)
             self.dots(canvas, top)
-            for run in self.reading.lines:
+            for run in self.runs():
                 self.line(canvas, top, run)
 
     def marked(self, canvas, spans, y, how, name):
@@ -172,13 +174,20 @@ class MessageLane:
                        f"{self.entry.name}: marked {name}{several}, {self.times.words(first.begin, last.end)}", len(group))
 
     def scale_ends(self, canvas, top):
-        ends = [(self.greatest, 4), (self.least, self.body + 4)] if self.greatest > self.least else [(self.least, self.body / 2 + 4)]
-        texts = {self.drawn(raw): self.scaling.text(raw) for raw in set(self.reading.raws())}
-        for value, down in ends:
-            words = next((each for each in (texts[value], f"{value:.9g}", f"{value:.6g}") if text_width(each, SMALL) <= SCALE_ROOM), f"{value:.3g}")
+        ends = [(self.greatest, 4), (self.least, self.body + 4)] if self.greatest != self.least else [(self.least, self.body / 2 + 4)]
+        for raw, down in ends:
+            value = self.scaling.physical(raw)
+            ways = (self.scaling.text(raw), self.scaling.number(raw), f"{value:.6g}")
+            words = next((each for each in ways if text_width(each, SMALL) <= SCALE_ROOM), f"{value:.3g}")
             canvas.text(PLOT_AT - 8, top + 6 + down, words, SMALL, "quiet", "end")
 
     # lines
+
+    def runs(self):
+        """From each start on; those that begin within one pixel as one."""
+        x = self.times.x
+        groups = near(self.reading.lines, lambda run: x(run.values[0].at), lambda group: x(group[0].values[0].at), THIN)
+        return [Run(group[-1].end, [value for run in group for value in run.values]) for group in groups]
 
     def changes(self, run):
         """The values of a run that differ from the one before."""
@@ -255,7 +264,7 @@ class MessageLane:
         for value in self.reading.dots if not self.times.are_many(self.reading.dots) else []:
             canvas.taken.append(Box(self.times.x(value.at) - 4, top, self.times.x(value.at) + 4, top + 6 + self.body))
         shades = {raw: place for place, raw in enumerate(sorted(self.scaling.names))}
-        for run in self.reading.lines:
+        for run in self.runs():
             self.band(canvas, top, run, shades)
         for group in self.times.near(self.reading.dots):
             names = ", ".join(dict.fromkeys(self.reading.text(value) for value in group))
