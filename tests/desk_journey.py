@@ -54,6 +54,7 @@ def bus(library, met):
     journey_bus.check_earlier()
     journey_bus.check_wrong_uses()
     journey_bus.check_days()
+    journey_bus.check_crowded_log()
     journey_bus.check_two_nodes(library, van(), 1000, met)
 
 

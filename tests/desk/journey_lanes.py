@@ -23,7 +23,7 @@ STOPPED = 7
 
 
 def random_call(player):
-    """Makes one call, or a stop with some calls and a start behind it."""
+    """Makes one call, or a stop with some calls and a start behind it; then clears marks where one stands that a later event would set again."""
     what = random.choices(list(WEIGHTS), WEIGHTS.values())[0]
     records = player.board.ipdu_records
     number, value = random.randrange(len(records)), random.getrandbits(random.choice([1, 8, 12, 32]))
@@ -38,6 +38,9 @@ def random_call(player):
         player.call(what, *([entry, value] if what == "initialise" else [entry]))
     else:
         player.call(what)
+    for number, marks in player.marks().items():
+        if marks & (SENT | RECEIVE_ERROR | SEND_ERROR):
+            player.call("clear_marks", number)
     if what == "stop":
         for _ in range(random.randrange(4)):
             random_call(player)
@@ -45,14 +48,10 @@ def random_call(player):
 
 
 def random_script(library, board, calls):
-    """A script in which marks are cleared as soon as one stands that a later event would set again."""
     player = Player(library, board)
     player.call("start")
     for _ in range(calls):
         random_call(player)
-        for number, marks in player.marks().items():
-            if marks & (SENT | RECEIVE_ERROR | SEND_ERROR):
-                player.call("clear_marks", number)
     return player.script()
 
 
@@ -113,7 +112,7 @@ class Check:
 
     def is_new(self, step, mark, objects, before, after):
         """Whether a mark was set now; it is on all objects of an I-PDU or on none, and no one had it before."""
-        if any(before[number] & mark for number in objects) and step.call == "tick":
+        if any(before[number] & mark for number in objects):
             self.fail(step, f"an event could not be seen, since mark {mark} stands already")
         has = {bool(after[number] & mark) for number in objects}
         if len(has) > 1:

@@ -60,7 +60,9 @@ class Read:
             kind = self.kinds[code]
             self.expect((value[0] if value[0] in "br" else "") == {"wire": "", "integer": "b", "real": "r"}[kind], line)
             known = None if value in ("x", "bx") else Fraction(value[1:]) if kind == "real" else int(value.lstrip("b"), 2)
-            self.changes[self.paths[code]].append((self.times[-1], known))
+            changes = self.changes[self.paths[code]]
+            self.expect(not changes or changes[-1][0] < self.times[-1], f"{self.paths[code]} changes twice at {self.times[-1]}")
+            changes.append((self.times[-1], known))
 
     def values(self, *path):
         return [value for _, value in self.changes[path]]
