@@ -18,6 +18,7 @@ import journey_bus
 import journey_logs
 from desk.layer import DRIVE
 from journey_boards import example_boards, random_network, van
+from journey_check import fail, same
 from journey_lanes import check_lanes, random_script
 from journey_sheet import check_sheet
 from journey_vcd import check_crowded, check_names, check_vcd
@@ -35,15 +36,18 @@ VCDS = {"vcd request": 200, "vcd confirm": 50, "vcd no_confirm": 20, "vcd indica
         "vcd delay": 10, "vcd watched": 10, "vcd marks": 500, "vcd values": 1000}
 
 
+def by_others(folder, search, python):
+    """The words for what other programs have read and written; can-utils are looked for in `search`, python-can in a Python."""
+    counts = {"can-utils": journey_logs.check_can_utils(folder, search), "python-can": journey_logs.check_python_can(folder, python)}
+    return ", ".join(f"{name} left out: not on this machine" if count is None else f"{count} by {name}" for name, count in counts.items())
+
+
 def logs(folder):
     """The words for what was tried."""
-    tried = journey_logs.check_own(folder)
-    wrong = journey_logs.check_wrong(folder)
-    if journey_logs.check_can_utils(folder, "") is not None or journey_logs.check_python_can(folder, os.path.join(folder, "python3")) is not None:
-        sys.exit("desk_journey.py: programs are found where there are none")
-    others = {"can-utils": journey_logs.check_can_utils(folder, None), "python-can": journey_logs.check_python_can(folder)}
-    told = [f"{name} left out: not on this machine" if count is None else f"{count} by {name}" for name, count in others.items()]
-    return f"{tried} frames of logs ({', '.join(told)}), {wrong} wrong ones"
+    nothing = by_others(folder, "", os.path.join(folder, "python3"))
+    same("without can-utils and python-can", nothing, "can-utils left out: not on this machine, python-can left out: not on this machine")
+    tried, wrong = journey_logs.check_own(folder), journey_logs.check_wrong(folder)
+    return f"{tried} frames of logs ({by_others(folder, None, journey_logs.DEBIAN)}), {wrong} wrong ones"
 
 
 def bus(library, met):
@@ -66,12 +70,12 @@ def check_run(board, script, met):
 def check_met(met, least):
     few = {name: met[name] for name, count in least.items() if met[name] < count}
     if few:
-        sys.exit(f"desk_journey.py: too few were met: {few}")
+        fail(f"too few were met: {few}")
 
 
 def main():
     if not os.path.exists(DRIVE):
-        sys.exit("desk_journey.py: target/bin/drive is missing: run 'rt check drive' first")
+        fail("target/bin/drive is missing: run 'rt check drive' first")
     random.seed(1)
     met, calls = collections.Counter(), 0
     with tempfile.TemporaryDirectory() as folder:

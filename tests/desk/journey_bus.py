@@ -1,7 +1,6 @@
 """Logs against the layer: a log becomes a script, drive plays it, and the run's log has the same frames; and two nodes of a network beside each other, where
 each request of one is indicated to the other."""
 import random
-import sys
 from decimal import Decimal
 from fractions import Fraction
 
@@ -13,21 +12,11 @@ from desk.run import CANNOT_BE_READ, duration, steps
 from desk.timeline import lanes
 from desk.wrong import Wrong
 from journey_boards import Player, passes, random_raw, van
+from journey_check import fail, same
 
 BEGIN = Decimal("1436509052.249713")
 KINDS = ["right", "right", "right", "right", "length", "unknown", "extended", "remote", "error", "fd", "xl"]
 NO_VALUE = 4
-
-
-def fail(text):
-    sys.exit(f"desk_journey.py: {text}")
-
-
-def same(what, found, want):
-    if found != want:
-        different = next((n for n, (one, other) in enumerate(zip(found, want)) if one != other), min(len(found), len(want)))
-        part = slice(different, different + 3)
-        fail(f"{what}: {len(found)} found, {len(want)} wanted; number {different + 1} and on are {found[part]}, should be {want[part]}")
 
 
 def tick_of(frame, begin, tick):

@@ -2,13 +2,13 @@
 the stored numbers of docs/MEMORY.md say."""
 import collections
 import random
-import sys
 
 from desk.layer import played
 from desk.records import SEND
 from desk.run import duration
 from desk.timeline import lanes
 from journey_boards import Player
+from journey_check import fail
 from memory_view import default_layout
 
 SENT, RECEIVE_ERROR, SEND_ERROR = 2, 4, 8
@@ -77,7 +77,7 @@ class Check:
                 self.events[event.line].add((lane.number, event.what))
 
     def fail(self, step, text):
-        sys.exit(f"desk_journey.py: line {step.line}: {text}; table {self.board.table.hex()}, script {self.script.splitlines()[:step.line]}")
+        fail(f"line {step.line}: {text}; table {self.board.table.hex()}, script {self.script.splitlines()[:step.line]}")
 
     def whole_run(self, met):
         """Counts in `met` the events and the ends of spans."""

@@ -4,12 +4,12 @@ import os
 import random
 import shutil
 import subprocess
-import sys
 from decimal import Decimal
 
 from desk import candump
 from desk.candump import DATA, ERROR, FD, REMOTE, XL, Frame
 from desk.wrong import Wrong, write
+from journey_check import fail, same
 
 DEBIAN = "/usr/bin/python3"  # the one Python that Debian's packages are for
 INTERFACES = ["can0", "can1"]
@@ -69,18 +69,6 @@ WRITTEN = [
 ]
 
 
-def fail(text):
-    sys.exit(f"desk_journey.py: {text}")
-
-
-def same(what, found, want):
-    for one, other in zip(found, want):
-        if one != other:
-            fail(f"{what}: {one}, should be {other}")
-    if len(found) != len(want):
-        fail(f"{what}: {len(found)} frames, should be {len(want)}")
-
-
 def random_frames(count, kinds, directions=("",)):
     """At rising times, some of which are equal."""
     frames, time = [], Decimal("1700000000.000001")
@@ -122,8 +110,7 @@ def check_wrong(folder):
         try:
             fail(f"the wrong log {text!r} is read as {candump.read(path)}")
         except Wrong as error:
-            if str(error) != f"{path}: {reason}":
-                fail(f"the wrong log {text!r} is refused with {error}, should be {path}: {reason}")
+            same(f"the line for the wrong log {text!r}", [str(error)], [f"{path}: {reason}"])
     return len(WRONG)
 
 
@@ -146,7 +133,7 @@ def check_can_utils(folder, search):
     return len(frames)
 
 
-def check_python_can(folder, python=DEBIAN):
+def check_python_can(folder, python):
     """A thousand frames through python-can of this Python; None where it has none. It tells no lengths of remote frames and no classes of errors."""
     if not os.path.exists(python) or subprocess.run([python, "-c", "import can"], cwd=folder, stderr=subprocess.DEVNULL, check=False).returncode:
         return None

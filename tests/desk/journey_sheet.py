@@ -1,13 +1,13 @@
 """The sheet that tools/desk/sheet.py works out of a run beside the proved sheet: the same calls, with a proved drain where the script has the lines of one."""
 import ctypes
 import random
-import sys
 
 from desk.layer import DRIVE, drive
 from desk.records import NONE, RECEIVE
 from desk.run import LIMIT, steps
 from desk.sheet import drain, sheet
 from journey_boards import Player
+from journey_check import fail
 
 SHEET, TEXT = 520, 1536  # bytes
 MOST_FOLLOWED = 16
@@ -26,7 +26,7 @@ class ProvedSheet:
 
     def expect_done(self, what, answer):
         if answer.number != 0:
-            sys.exit(f"desk_journey.py: the sheet's {what} answers {answer.number}, table {self.layer.table.hex()}")
+            fail(f"the sheet's {what} answers {answer.number}, table {self.layer.table.hex()}")
         return answer.value
 
     def drain(self):
@@ -83,8 +83,7 @@ def check_sheet(library, board, drains, met):
     for end, lines in journey.drained:
         worked_out = [row.line() for row in sheet(board, made[:end])]
         if worked_out != lines:
-            sys.exit(f"desk_journey.py: after {end} calls the sheet is {worked_out}, the proved one {lines}; table {board.table.hex()}, "
-                     f"script {script.splitlines()[:end]}")
+            fail(f"after {end} calls the sheet is {worked_out}, the proved one {lines}; table {board.table.hex()}, script {script.splitlines()[:end]}")
         met["drains"] += 1
     met["overflows"] += sum(step.call == "receive" and step.status == LIMIT for step in made)
     met["errors"] += sum(row.errors for row in sheet(board, made))

@@ -1,6 +1,5 @@
 """A run's VCD, read back by a reader of its own, beside what the run says."""
 import re
-import sys
 from decimal import Decimal
 from fractions import Fraction
 
@@ -12,6 +11,7 @@ from desk.run import duration
 from desk.timeline import lanes
 from desk.vcd import vcd
 from journey_boards import van
+from journey_check import fail, same
 
 NAME = re.compile("[A-Za-z_][A-Za-z0-9_]*")
 MARKS = {RECEIVE: [("arrived", 1), ("receive_error", 4)], SEND: [("sent", 2), ("send_error", 8)]}
@@ -49,7 +49,7 @@ class Read:
     @staticmethod
     def expect(holds, what):
         if not holds:
-            sys.exit(f"desk_journey.py: the VCD can't be read: {what}")
+            fail(f"the VCD can't be read: {what}")
 
     def line(self, line):
         if line.startswith("#"):
@@ -78,11 +78,6 @@ def changes_of(values):
     return [value for place, value in enumerate(values) if place == 0 or value != values[place - 1]]
 
 
-def same(what, found, want):
-    if found != want:
-        sys.exit(f"desk_journey.py: the VCD's {what} is {found[:20]}, should be {want[:20]}")
-
-
 def object_values(entry, made, states):
     """The raw values that are to be seen of an object, one after the other."""
     if entry.record.kind == SEND and entry.record.ipdu != NONE:
@@ -102,13 +97,13 @@ def check_ipdus(read, board, made, met):
         sends = lane.record.direction == SEND
         for what in ("request", "confirm", "no_confirm", "deadline") if sends else ("indication", "error", "deadline"):
             events = [int(event.at) for event in lane.events if event.what == what]
-            same(f"{name} {what}", [int(time // length) for time in read.pulses("ipdu", name, what)], events)
+            same(f"the VCD's {name} {what}", [int(time // length) for time in read.pulses("ipdu", name, what)], events)
             met[f"vcd {what}"] += len(events)
         for wire, spans in (("open", lane.open), ("delay", lane.delays)) if sends else (("watched", lane.watched),):
             rises = sum(span.begin not in {before.end for before in spans} for span in spans)
             falls = rises - (bool(spans) and spans[-1].how == "end")
             values = read.values("ipdu", name, wire)
-            same(f"{name} {wire}", [values[0], values.count(1), values.count(0) - 1], [0, rises, falls])
+            same(f"the VCD's {name} {wire}", [values[0], values.count(1), values.count(0) - 1], [0, rises, falls])
             met[f"vcd {wire}"] += rises
 
 
@@ -118,7 +113,7 @@ def check_crowded():
     calls, board.network.tick = 500, Decimal("0.001")
     script = "start\n" + "indication 2 0\n" * calls + "tick\n" * calls
     read = Read(vcd(board, *played(board, script, "script"), ""))
-    same("pulses of a crowded run", [len(read.pulses("ipdu", "Case", "error"))], [calls])
+    same("the VCD's pulses of a crowded run", [len(read.pulses("ipdu", "Case", "error"))], [calls])
 
 
 def check_names():
@@ -128,8 +123,27 @@ def check_names():
         ipdu.name = name
     board = Board(network, "van")
     text = vcd(board, *played(board, "start\n", "script"), "9 lives $end")
-    same("names", re.findall(r"\$scope module (\w*) \$end", text)[:6], ["_9_lives__end", "layer", "ipdu", "a_b", "a_b_2", "a_b_3"])
+    same("the VCD's names", re.findall(r"\$scope module (\w*) \$end", text)[:6], ["_9_lives__end", "layer", "ipdu", "a_b", "a_b_2", "a_b_3"])
     Read(text)
+
+
+def check_messages(read, board, made, states, met):
+    for entry in board.objects:
+        shown = changes_of(object_values(entry, made, states))
+        same(f"the VCD's {entry.name} raw", read.values("message", entry.name, "raw"), [None] + [raw % WHOLE for raw in shown])
+        same(f"the VCD's {entry.name} value", read.values("message", entry.name, "value"), [Fraction(entry.scaling.physical(raw)) for raw in shown])
+        words = [state.marks[entry.number] for state in states]
+        for name, mark in MARKS[entry.record.kind]:
+            marks = changes_of([None] + [None if word is None else int(bool(word & mark)) for word in words])
+            same(f"the VCD's {entry.name} {name}", read.values("message", entry.name, name), marks)
+            met["vcd marks"] += len(marks)
+        met["vcd values"] += len(shown)
+
+
+def check_layer(read, made):
+    running = [int(step.call == "start") for step in made if step.is_done and step.call in ("start", "stop")]
+    same("the VCD's running", read.values("layer", "running"), changes_of([0] + running))
+    same("the VCD's status", read.values("layer", "status"), changes_of([None] + [step.status for step in made]))
 
 
 def check_vcd(board, script, met):
@@ -137,19 +151,9 @@ def check_vcd(board, script, met):
     made, states = played(board, script, "script")
     text = vcd(board, made, states, board.network.title)
     if text != vcd(board, *played(board, script, "script"), board.network.title):
-        sys.exit("desk_journey.py: the VCD of the same run is another")
+        fail("the VCD of the same run is another")
     read = Read(text)
     check_ipdus(read, board, made, met)
-    for entry in board.objects:
-        raw = object_values(entry, made, states)
-        same(f"{entry.name} raw", read.values("message", entry.name, "raw"), [None] + [value % WHOLE for value in changes_of(raw)])
-        same(f"{entry.name} value", read.values("message", entry.name, "value"), [Fraction(entry.scaling.physical(value)) for value in changes_of(raw)])
-        for name, mark in MARKS[entry.record.kind]:
-            marks = changes_of([None if state.marks[entry.number] is None else int(bool(state.marks[entry.number] & mark)) for state in states])
-            same(f"{entry.name} {name}", read.values("message", entry.name, name), [None] * (marks[0] is not None) + marks)
-            met["vcd marks"] += len(marks)
-        met["vcd values"] += len(raw)
-    same("layer running", changes_of(read.values("layer", "running")), changes_of([0] + [int(step.call == "start") for step in made if step.is_done
-                                                                                       and step.call in ("start", "stop")]))
-    same("layer status", read.values("layer", "status"), [None] + changes_of([step.status for step in made]))
-    same("end", read.times[-1:], [int(duration(made) * Fraction(board.network.tick) * 1000)])
+    check_messages(read, board, made, states, met)
+    check_layer(read, made)
+    same("the VCD's end", read.times[-1:], [int(duration(made) * Fraction(board.network.tick) * 1000)])

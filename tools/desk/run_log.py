@@ -25,13 +25,13 @@ def seen(step, sent_only):
 
 def frames(board, made, begin=1.0, interface="can0", sent_only=False):
     """The frames of a run in the order of its steps; the script begins at `begin`, in seconds. log2asc repeats its header for each frame before 1 s."""
-    first = Fraction(str(begin))
+    first = floor(Fraction(str(begin)) / Fraction(10) ** SCALE)
     result = []
     for step in made:
         for number, data in seen(step, sent_only):
             ipdu = board.ipdus[number]
             if ipdu.identifier is None:
                 raise wrong(board.network.file, f"ipdu.{ipdu.name}", "has no id, and a frame in a log has one")
-            time = floor(first / Fraction(10) ** SCALE) + microseconds(step.at, board.network.tick)
+            time = first + microseconds(step.at, board.network.tick)
             result.append(Frame(Decimal(time).scaleb(SCALE), interface, ipdu.identifier, ipdu.extended, data))
     return result
