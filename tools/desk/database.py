@@ -9,13 +9,13 @@ from decimal import Decimal, InvalidOperation
 from itertools import chain
 
 from .dbc_lines import Lines
+from .sections import is_number
 from .wrong import read_bytes, wrong
 
 DEBIAN = "/usr/bin/python3"  # the one Python that Debian's packages are for
 NEEDED = "needs Debian's python3-canmatrix: apt-get install python3-canmatrix python3-lxml"
 NOBODY = "Vector__XXX"  # a DBC's word for no node
 FREE_SIGNALS = "VECTOR__INDEPENDENT_SIG_MSG"  # a DBC's word for the frame of signals in no frame
-MOST_DIGITS = 30  # of a number, before or behind its point
 
 # GenMsgSendType and GenSigSendType in lower case; others have no counterpart.
 MODE_WORDS = {
@@ -92,7 +92,8 @@ def load(path):
         try:
             buses = formats.loads(lines.data, kind, dbcImportEncoding=lines.encoding) if lines else formats.loads(data, kind)
         except Exception as error:  # whatever a wrong file makes of the library
-            raise wrong(path, "", f"canmatrix can't read it: {' '.join(str(error).split()) or type(error).__name__}") from None
+            reason = " ".join(str(getattr(error, "msg", error)).split())
+            raise wrong(path, "", f"canmatrix can't read it: {reason or type(error).__name__}") from None
     if lines:
         lines.check(said.getvalue(), buses[""].frames)
     buses = {name: bus for name, bus in buses.items() if bus.frames}
@@ -113,12 +114,12 @@ def node_names(texts):
 
 
 def number(value):
-    """An int or a decimal; what is neither, or has too many digits, as the text that it is."""
+    """An int or a decimal; what can be neither is handed on as the text that it is, and refused where it is read."""
     try:
         decimal = Decimal(value)
     except InvalidOperation:
         return str(value)
-    if not decimal.is_finite() or abs(decimal.adjusted()) > MOST_DIGITS:
+    if not is_number(decimal):
         return str(value)
     return int(decimal) if decimal == decimal.to_integral_value() else decimal
 
@@ -148,7 +149,7 @@ def ipdu(matrix, frame):
         "size_in_bytes": frame.size,
         "transmission_mode": mode,
         **times,
-        "comment": frame.comment or None,
+        "comment": (frame.comment or "").strip() or None,
         "refused": refused or None,
     })
 
@@ -218,7 +219,7 @@ def initial(matrix, signal):
 
 def comment(frame, signal):
     """A signal's comment, with what a multiplexor has to do with it."""
-    words = [signal.comment] if signal.comment else []
+    words = [signal.comment.strip()] if signal.comment else []
     if signal.is_multiplexer:
         held = [other.name for other in frame.signals if other.mux_val is not None]
         words.append(f"says which of the messages {', '.join(held)} the frame holds")

@@ -67,10 +67,11 @@ class Lines:
         for frame in frames:
             read.setdefault((frame.arbitration_id.id, frame.arbitration_id.extended), []).append([signal.name for signal in frame.signals])
         for number, identifier, signals in self.frames():
-            names = read[identifier].pop(0) if read.get(identifier) else None
-            lost = number if names is None else next((at for at, name in signals if name not in names), number) if len(names) < len(signals) else None
-            if lost is not None:
-                raise self.wrong(lost, f"canmatrix passes over {'a BO_' if lost == number else 'an SG_'} there")
+            if not read.get(identifier):
+                raise self.wrong(number, "canmatrix passes over a BO_ there")
+            names = read[identifier].pop(0)
+            if len(names) < len(signals):
+                raise self.wrong(next((at for at, name in signals if name not in names), number), "canmatrix passes over an SG_ there")
 
     def frames(self):
         """Line, identifier and signals (line and name) of each frame, as the words BO_ and SG_ say."""

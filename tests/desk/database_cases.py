@@ -1,0 +1,247 @@
+"""What tests/desk_database.py looks at: DBC, KCD and ARXML texts, and what has to become of them."""
+from decimal import Decimal
+
+FRAME = "BO_ 100 Frame: 8 VAN"
+SIGNAL = ' SG_ Signal : 0|8@1+ (1,0) [0|0] "" CASE'
+CYCLE = ['BA_DEF_ BO_ "GenMsgCycleTime" INT 0 65535;', 'BA_DEF_DEF_ "GenMsgCycleTime" 0;']
+TOML = 'database = "a.dbc"\ntick_ms = 10\nnodes = ["VAN", "CASE"]\ndefaults.deadline_ms = 100\n'
+
+
+def dbc_text(lines):
+    return "\n".join(['VERSION ""', "BU_: VAN CASE GATEWAY", *lines, ""])
+
+
+# examples/climate.dbc
+
+CLIMATE_IPDUS = {
+    "VanAir": {"id": 0x120, "sender": "VAN", "size_in_bytes": 8, "transmission_mode": "mixed", "time_period_ms": 500, "time_offset_ms": 100,
+               "minimum_delay_time_ms": 100, "comment": "The air around the cargo"},
+    "VanCargo": {"id": 0x121, "sender": "VAN", "size_in_bytes": 4, "transmission_mode": "direct", "minimum_delay_time_ms": 50,
+                 "comment": "The freezer, the door and the light on the case"},
+    "CaseState": {"id": 0x18FF5023, "extended": True, "sender": "CASE", "size_in_bytes": 6, "transmission_mode": "periodic", "time_period_ms": 250,
+                  "comment": "What the case's controller says"},
+}
+ON_CHANGE = {"transfer_property": "triggered", "filter": "NewIsDifferent"}
+PENDING = {"transfer_property": "pending"}
+BOTH = {"receivers": ["CASE", "GATEWAY"]}
+CLIMATE_MESSAGES = {
+    "FrontHumidity": {"ipdu": "VanAir", "dbc_start_bit": 0, "size_in_bits": 10, "factor": Decimal("0.1"), "unit": "%", "minimum": 0, "maximum": 100,
+                      "initial_value_raw": 450, **BOTH, **ON_CHANGE, "comment": "Relative humidity behind the cab"},
+    "RearHumidity": {"ipdu": "VanAir", "dbc_start_bit": 17, "size_in_bits": 10, "byte_order": "big", "factor": Decimal("0.1"), "unit": "%", "minimum": 0,
+                     "maximum": 100, "initial_value_raw": 450, **BOTH, **ON_CHANGE, "comment": "Relative humidity at the rear door"},
+    "AirTemperature": {"ipdu": "VanAir", "dbc_start_bit": 39, "size_in_bits": 12, "byte_order": "big", "signed": True, "factor": Decimal("0.1"), "unit": "°C",
+                       "minimum": -40, "maximum": 80, "initial_value_raw": 200, **BOTH, **PENDING},
+    "CarbonDioxide": {"ipdu": "VanAir", "dbc_start_bit": 48, "size_in_bits": 12, "factor": 2, "unit": "ppm", "minimum": 0, "maximum": 8190,
+                      "initial_value_raw": 210, "receivers": ["GATEWAY"], **PENDING},
+    "FreezerTemperature": {"ipdu": "VanCargo", "dbc_start_bit": 0, "size_in_bits": 8, "signed": True, "factor": Decimal("0.5"), "unit": "°C", "minimum": -40,
+                           "maximum": 20, "initial_value_raw": -36, **BOTH},
+    "Door": {"ipdu": "VanCargo", "dbc_start_bit": 8, "size_in_bits": 2, "minimum": 0, "maximum": 3, "initial_value_raw": 3, **BOTH,
+             "values": {"0": "closed", "1": "open", "2": "ajar", "3": "unknown"}, **ON_CHANGE},
+    "CaseLight": {"ipdu": "VanCargo", "dbc_start_bit": 23, "size_in_bits": 12, "byte_order": "big", "unit": "lx", "minimum": 0, "maximum": 4095,
+                  "initial_value_raw": 200, "receivers": ["CASE"], **PENDING, "comment": "Light on the case; it waits for the next frame"},
+    "Shock": {"ipdu": "CaseState", "dbc_start_bit": 0, "size_in_bits": 16, "factor": Decimal("0.01"), "unit": "g", "minimum": 0, "maximum": 100,
+              "receivers": ["VAN"], "comment": "Shocks that the case felt, one after the other"},
+    "WantedHumidity": {"ipdu": "CaseState", "dbc_start_bit": 17, "size_in_bits": 10, "byte_order": "big", "factor": Decimal("0.1"), "unit": "%", "minimum": 20,
+                       "maximum": 80, "initial_value_raw": 500, "receivers": ["VAN"], "comment": "The humidity that the case asks for"},
+    "CaseTemperature": {"ipdu": "CaseState", "dbc_start_bit": 32, "size_in_bits": 10, "signed": True, "factor": Decimal("0.25"), "offset": 20, "unit": "°C",
+                        "minimum": -40, "maximum": 80, "initial_value_raw": -8, "receivers": ["VAN", "GATEWAY"]},
+}
+
+# send types
+
+MODES = {
+    "periodic": ["cyclic", "CyclicX", "periodic", "FixedPeriodic"],
+    "direct": ["spontaneous", "event", "onEvent", "triggered", "direct", "OnChange", "OnWrite", "SpontanWithDelay"],
+    "mixed": ["cyclicAndSpontaneous", "cyclicAndSpontaneousX", "cyclicAndSpontanWithDelay", "mixed", "cyclicEvent", "EventPeriodic"],
+    "as timed": ["noMsgSendType", "None"],
+    None: ["cyclicIfActive", "ifActive", "reserved"],
+}
+SIGNAL_SEND_TYPES = {
+    "Cyclic": PENDING, "OnWrite": {"transfer_property": "triggered"}, "onChange": ON_CHANGE, "NoSigSendType": {}, "none": {},
+    "OnWriteWithRepetition": None, "OnChangeWithRepetition": None, "IfActive": None, "IfActiveWithRepetition": None,
+}
+
+
+def send_types():
+    return [(word, mode) for mode, words in MODES.items() for word in words]
+
+
+def attribute_ways(kind, name, of, word):
+    """A DBC's ways to give an enumeration's word: by index, as text, and as default."""
+    define = f'BA_DEF_ {kind}  "{name}" ENUM  "other","{word}";'
+    return [[define, f'BA_DEF_DEF_ "{name}" "other";', f'BA_ "{name}" {of} 1;'], [define, f'BA_ "{name}" {of} "{word}";'],
+            [define, f'BA_DEF_DEF_  "{name}" "{word}";']]
+
+
+# readings: lines, and the keys of I-PDU and message that they give, None for none
+
+START = 'BA_DEF_ SG_ "GenSigStartValue" FLOAT 0 0;'
+READINGS = [
+    ("the least", [FRAME, SIGNAL],
+     {"id": 100, "extended": None, "sender": "VAN", "size_in_bytes": 8, "transmission_mode": "direct", "time_period_ms": None, "comment": None, "refused": None},
+     {"ipdu": "Frame", "dbc_start_bit": 0, "size_in_bits": 8, "byte_order": None, "signed": None, "factor": None, "offset": None, "unit": None, "minimum": None,
+      "maximum": None, "initial_value_raw": None, "receivers": ["CASE"], "values": None, "transfer_property": None, "filter": None, "comment": None}),
+    ("nobody sends", ["BO_ 100 Frame: 8 Vector__XXX", SIGNAL], {"sender": None}, {"receivers": ["CASE"]}),
+    ("nobody receives", [FRAME, SIGNAL.replace("CASE", "Vector__XXX")], {"sender": "VAN"}, {"receivers": []}),
+    ("its sender is among the receivers", [FRAME, SIGNAL.replace("CASE", "VAN,CASE")], {}, {"receivers": ["CASE"]}),
+    ("blanks between receivers", [FRAME, SIGNAL.replace("CASE", "CASE GATEWAY")], {}, {"receivers": ["CASE", "GATEWAY"]}),
+    ("a J1939 frame", [f"BO_ {0x98FEF1FE} Frame: 8 VAN", SIGNAL], {"id": 0x18FEF1FE, "extended": True}, {}),
+    ("a cycle time by default", [FRAME, SIGNAL, CYCLE[0], 'BA_DEF_DEF_ "GenMsgCycleTime" 20;'], {"transmission_mode": "periodic", "time_period_ms": 20}, {}),
+    ("a fraction of a millisecond", [FRAME, SIGNAL, 'BA_DEF_ BO_ "GenMsgCycleTime" FLOAT 0 10;', 'BA_ "GenMsgCycleTime" BO_ 100 2.5;'],
+     {"time_period_ms": Decimal("2.5")}, {}),
+    ("a start value is as stored", [FRAME, SIGNAL.replace("(1,0)", "(0.5,-40)"), START, 'BA_ "GenSigStartValue" SG_ 100 Signal 130;'], {},
+     {"initial_value_raw": 130, "factor": Decimal("0.5"), "offset": -40}),
+    ("a negative start value", [FRAME, SIGNAL.replace("8@1+ (1,0)", "8@0- (0.5,-40)"), START, 'BA_ "GenSigStartValue" SG_ 100 Signal -3;'], {},
+     {"initial_value_raw": -3, "signed": True, "byte_order": "big"}),
+    ("a start value by default", [FRAME, SIGNAL.replace("(1,0)", "(2,7)"), START, 'BA_DEF_DEF_ "GenSigStartValue" 5;'], {}, {"initial_value_raw": 5}),
+    ("UTF-8", [FRAME, SIGNAL.replace('""', '"°C"')], {}, {"unit": "°C"}),
+    ("a comment of two lines", [FRAME, SIGNAL, 'CM_ SG_ 100 Signal "one', 'BO_ 7 two";'], {}, {"comment": "one\nBO_ 7 two"}),
+    ("signals in no frame", [FRAME, SIGNAL, "BO_ 3221225472 VECTOR__INDEPENDENT_SIG_MSG: 0 Vector__XXX", ' SG_ Free : 0|8@1+ (1,0) [0|0] "" Vector__XXX'], {}, {}),
+    ("lines of others", [FRAME, SIGNAL, 'EV_ Out: none;', 'BA_ "Other" BO_ 999 1;', "SIG_GROUP_ wrong"], {}, {}),
+    ("a multiplexed signal", [FRAME, ' SG_ Mux M : 0|4@1+ (1,0) [0|0] "" CASE', ' SG_ Signal m3 : 8|8@1+ (1,0) [0|0] "" CASE',
+                              "SG_MUL_VAL_ 100 Signal Mux 3-3;", 'CM_ SG_ 100 Signal "Wind";'], {"refused": None}, {"comment": "Wind; while Mux is 3"}),
+    ("a multiplexor", [FRAME, ' SG_ Signal M : 0|4@1+ (1,0) [0|0] "" CASE', ' SG_ A m0 : 8|8@1+ (1,0) [0|0] "" CASE', ' SG_ B m1 : 8|8@1+ (1,0) [0|0] "" CASE'],
+     {"refused": None}, {"comment": "says which of the messages A, B the frame holds"}),
+]
+
+# refusals: lines, TOML, and what is said
+
+def of_others(lines):
+    """Sent by a node that gets no table, to nobody."""
+    return [line.replace("VAN", "GATEWAY").replace("CASE", "Vector__XXX") for line in lines]
+
+
+WITH_TYPE = [FRAME, SIGNAL, *attribute_ways("BO_", "GenMsgSendType", "BO_ 100", "cyclicIfActive")[0]]
+SIGNAL_TYPE = [FRAME, SIGNAL, *attribute_ways("SG_", "GenSigSendType", "SG_ 100 Signal", "IfActive")[0]]
+FLOAT = [FRAME, SIGNAL.replace("0|8", "0|32"), "SIG_VALTYPE_ 100 Signal : 1;"]
+TWO_SENDERS = [FRAME, SIGNAL, "BO_TX_BU_ 100 : VAN,GATEWAY;"]
+MULTIPLEX = "has extended multiplexing, and plain (one multiplexor, with signals m0, m1 ..) is all that is read; leave_out leaves it out"
+NO_FLOAT = "a.dbc: message.Signal: is a floating-point signal, and the layer carries whole numbers; leave_out leaves it out"
+REFUSALS = [
+    ("a send type", WITH_TYPE, "", ["a.dbc: ipdu.Frame.transmission_mode: GenMsgSendType is cyclicIfActive, and there is direct, periodic and mixed; "
+                                    "transmission_mode = .. in the TOML says which"]),
+    ("a send type that the TOML replaces", WITH_TYPE, '[ipdu.Frame]\ntransmission_mode = "direct"\n', []),
+    ("a send type of a frame that is left out", WITH_TYPE, 'leave_out = ["Frame"]\n', []),
+    ("a send type of others' frame", of_others(WITH_TYPE), "", []),
+    ("a signal's send type", SIGNAL_TYPE, "", ["a.dbc: message.Signal.transfer_property: GenSigSendType is IfActive, and there is triggered and pending; "
+                                               "transfer_property = .. in the TOML says which"]),
+    ("a signal's send type that the TOML replaces", SIGNAL_TYPE, '[message.Signal]\ntransfer_property = "pending"\n', []),
+    ("a float", FLOAT, "", [NO_FLOAT]),
+    ("a float that is left out", FLOAT, 'leave_out = ["Frame.Signal"]\n', []),
+    ("a float that others send each other", of_others(FLOAT), "", []),
+    ("two senders", TWO_SENDERS, "", ["a.dbc: ipdu.Frame.sender: VAN and GATEWAY send it, and an I-PDU has one sender; sender = .. in the TOML says which"]),
+    ("two senders and a TOML", TWO_SENDERS, '[ipdu.Frame]\nsender = "VAN"\n', []),
+    ("33 bits", [FRAME, SIGNAL.replace("0|8", "0|33")], "", ["a.dbc: message.Signal.size_in_bits: is 33, has to be 1 to 32, the bits of a value"]),
+    ("CAN FD", [FRAME.replace("8 V", "12 V"), SIGNAL], "", ["a.dbc: ipdu.Frame.size_in_bytes: is 12, has to be 1 to 8, the bytes of a frame"]),
+    ("no byte", [FRAME.replace("8 V", "0 V")], "", ["a.dbc: ipdu.Frame.size_in_bytes: is 0, has to be 1 to 8, the bytes of a frame"]),
+    ("outside its frame", [FRAME.replace("8 V", "1 V"), SIGNAL.replace("0|8", "1|8")], "",
+     ["a.dbc: message.Signal.dbc_start_bit: is 1: 8 little bits from there leave the 1 bytes of Frame"]),
+    ("m0M", [FRAME, ' SG_ A M : 0|4@1+ (1,0) [0|0] "" CASE', ' SG_ B m0M : 4|4@1+ (1,0) [0|0] "" CASE', ' SG_ C m0 : 8|8@1+ (1,0) [0|0] "" CASE'], "",
+     [f"a.dbc: ipdu.Frame: {MULTIPLEX}"]),
+    ("a range of a multiplexor", [FRAME, ' SG_ A M : 0|4@1+ (1,0) [0|0] "" CASE', ' SG_ B m0 : 8|8@1+ (1,0) [0|0] "" CASE', "SG_MUL_VAL_ 100 B A 0-3;"], "",
+     [f"a.dbc: ipdu.Frame: {MULTIPLEX}"]),
+    ("m0 with no multiplexor", [FRAME, ' SG_ B m0 : 8|8@1+ (1,0) [0|0] "" CASE'], "", [f"a.dbc: ipdu.Frame: {MULTIPLEX}"]),
+    ("a cyclic frame with no cycle", [FRAME, SIGNAL, *attribute_ways("BO_", "GenMsgSendType", "BO_ 100", "cyclic")[0]], "",
+     ["a.dbc: ipdu.Frame.time_period_ms: 0 ms are 0 ticks of 10 ms, has to be 1 to 65535 ticks"]),
+    ("a cycle out of proportion", [FRAME, SIGNAL, *CYCLE, 'BA_ "GenMsgCycleTime" BO_ 100 1e99;'], "",
+     ['a.dbc: ipdu.Frame.time_period_ms: is "1e99", has to be a number']),
+    ("a start value with a fraction", [FRAME, SIGNAL, START, 'BA_ "GenSigStartValue" SG_ 100 Signal 1.5;'], "",
+     ["a.dbc: message.Signal.initial_value_raw: is 1.5, has to be a whole number"]),
+    ("names in the TOML", [FRAME, SIGNAL], '[message."Frame.Signal"]\nunit = "m"\n[message."Frame.Other"]\nreceives = "Frame.Signal"\n', []),
+    ("a section twice", [FRAME, SIGNAL], '[message."Frame.Signal"]\n[message.Signal]\n', ["a.toml: message.Signal: is Signal, which has a section already"]),
+]
+
+# wrong files: name, bytes, and what is said
+
+BAD_SIGNAL = SIGNAL.replace("0|8", "zero|8")
+WRONG_FILES = [
+    ("a.sym", b"{ENUMS}", "a.sym: is no database that can be read: its name has to end in .dbc, .kcd or .arxml"),
+    ("a.dbc", b"", "a.dbc: holds no frame"),
+    ("a.dbc", b"Dear reader,\nthis is no DBC.\n", "a.dbc: holds no frame"),
+    ("a.dbc", b"\x7fELF\x02\x01\x01\x00\x00", "a.dbc: is no DBC: byte 7 is 0, and a DBC is text"),
+    ("a.dbc", b"\xfe\xed\xfa", "a.dbc: holds no frame"),
+    ("a.dbc", dbc_text([FRAME, SIGNAL, BAD_SIGNAL]).encode(), f"a.dbc: line 5: can't be read: {BAD_SIGNAL.strip()}"),
+    ("a.dbc", dbc_text([FRAME, SIGNAL.replace(" : ", " m : ")]).encode(), f"a.dbc: line 4: can't be read: {SIGNAL.strip().replace(' : ', ' m : ')}"),
+    ("a.dbc", dbc_text([FRAME, SIGNAL, "BO_ here Other: 8 VAN"]).encode(), "a.dbc: line 5: can't be read: BO_ here Other: 8 VAN"),
+    ("a.dbc", dbc_text([FRAME, SIGNAL, "BO_ 2048 Other: 8 VAN"]).encode(), "a.dbc: line 5: can't be read: BO_ 2048 Other: 8 VAN"),
+    ("a.dbc", dbc_text([FRAME, SIGNAL, "BO_ 101 Other 8 VAN"]).encode(), "a.dbc: line 5: can't be read: BO_ 101 Other 8 VAN"),
+    ("a.dbc", dbc_text([FRAME, SIGNAL, 'BA_ "GenMsgCycleTime" BO_ 99 1;']).encode(), 'a.dbc: line 5: can\'t be read: BA_ "GenMsgCycleTime" BO_ 99 1;'),
+    ("a.dbc", dbc_text([SIGNAL, FRAME]).encode(), f"a.dbc: line 3: can't be read: {SIGNAL.strip()}"),
+    ("a.dbc", dbc_text([SIGNAL.replace("SG_ ", "SG_\t"), FRAME]).encode(), "a.dbc: line 3: is a signal before the first frame"),
+    ("a.dbc", dbc_text([FRAME, SIGNAL, SIGNAL.replace("SG_ Signal", "SG_\tOther")]).encode(), "a.dbc: line 5: canmatrix passes over an SG_ there"),
+    ("a.dbc", dbc_text([FRAME, SIGNAL, "BO_\t101 Other: 8 VAN"]).encode(), "a.dbc: line 5: canmatrix passes over a BO_ there"),
+    ("a.dbc", dbc_text([FRAME + SIGNAL]).encode(), "a.dbc: line 3: canmatrix passes over an SG_ there"),
+    ("a.dbc", dbc_text(['CM_ BU_ VAN "two', 'lines"', ";", FRAME, SIGNAL]).encode(), "a.dbc: line 6: canmatrix passes over a BO_ there"),
+    ("a.dbc", dbc_text([FRAME, SIGNAL, 'CM_ BO_ 100 "open;', "BO_ 101 Other: 8 VAN"]).encode(), "a.dbc: line 5: has a quote that is never closed"),
+    ("a.dbc", dbc_text([FRAME, SIGNAL, *attribute_ways("BO_", "Any", "BO_ 100", "word")[0][:2], 'BA_ "Any" BO_ 100 2;']).encode(),
+     "a.dbc: line 7: 2 is none of the 2 values of Any"),
+    ("a.dbc", dbc_text([FRAME, SIGNAL, FRAME.replace("100", "101")]).encode(), "a.dbc: has the frame Frame more than once"),
+    ("a.dbc", dbc_text([FRAME, SIGNAL, FRAME.replace("Frame", "Other")]).encode(), "a.dbc: has the identifier 0x64 more than once"),
+    ("a.dbc", dbc_text([FRAME, SIGNAL, SIGNAL]).encode(), "a.dbc: has the signal of Frame Signal more than once"),
+    ("a.dbc", dbc_text([FRAME, SIGNAL, 'BA_DEF_ SG_ "GenSigCycleTime" STRING;', 'BA_ "GenSigCycleTime" SG_ 100 Signal "soon";']).encode(),
+     "a.dbc: canmatrix can't read it: invalid literal for int() with base 10: '\"soon\"'"),
+]
+
+# KCD and ARXML: the prefix that canmatrix gives the frames when it writes them, and the keys that it does not write
+
+NO_ATTRIBUTES = ["transmission_mode", "time_offset_ms", "minimum_delay_time_ms", "initial_value_raw", "transfer_property", "filter"]
+LOST = {"kcd": ("", [*NO_ATTRIBUTES, "comment"]),
+        "arxml": ("FRAME_", [*NO_ATTRIBUTES, "time_period_ms", "sender", "signed", "unit", "minimum", "maximum", "receivers"])}
+KCD = """<?xml version="1.0" encoding="UTF-8"?>
+<NetworkDefinition xmlns="http://kayak.2codeornot2code.org/1.0"><Document/>
+<Node id="1" name="VAN"/><Node id="2" name="CASE"/>
+<Bus name="Cargo"><Message id="0x120" name="Frame" length="4" triggered="true" interval="100"><Producer><NodeRef id="1"/></Producer>
+<Signal name="Signal" offset="16" length="12" endianess="big"><Consumer><NodeRef id="2"/></Consumer>
+<Value type="signed" slope="0.1" intercept="-40" unit="°C"/></Signal></Message></Bus>%s</NetworkDefinition>
+"""
+XML_READINGS = [
+    ("a.kcd", KCD % "",
+     {"id": 0x120, "sender": "VAN", "size_in_bytes": 4, "transmission_mode": "periodic", "time_period_ms": 100},
+     {"ipdu": "Frame", "dbc_start_bit": 23, "size_in_bits": 12, "byte_order": "big", "signed": True, "factor": Decimal("0.1"), "offset": -40, "unit": "°C",
+      "minimum": Decimal("-244.8"), "maximum": Decimal("164.7"), "receivers": ["CASE"]}),
+]
+WRONG_XML = [
+    ("a.kcd", "", "a.kcd: canmatrix can't read it: Document is empty, line 1, column 1"),
+    ("a.kcd", "<NetworkDefinition/>", "a.kcd: holds no frame"),
+    ("a.kcd", KCD % KCD[KCD.index("<Bus"):KCD.index("%s")].replace("Cargo", "Cab"), "a.kcd: holds the buses Cargo, Cab: a file with one of them is needed"),
+    ("a.arxml", "no XML", "a.arxml: canmatrix can't read it: Start tag expected, '<' not found, line 1, column 1"),
+]
+
+# DBC out
+
+ODD_TEXTS = """title = 'A "van" \\ of ours'
+tick_ms = 0.5
+nodes = ["V", "Case.Two"]
+outside = ["Road"]
+[ipdu.Frame]
+id = 7
+comment = "two\\nlines \\"quoted\\" \\\\"
+sender = "V"
+receivers = ["Case.Two"]
+size_in_bytes = 4
+transmission_mode = "periodic"
+time_period_ms = 2.5
+deadline_ms = 1
+[message."Frame.Shared"]
+ipdu = "Frame"
+start_bit = 28
+size_in_bits = 12
+byte_order = "big"
+factor = -0.5
+unit = 'a\\b"c'
+values = { 0 = 'say "no"', -1 = "b\\\\" }
+"""
+ODD_LINES = [
+    "BU_: V Two Road",
+    ' SG_ Shared : 23|12@0+ (-0.5,0) [-2047.5|0.0] "a/b\'c"  Two',
+    'CM_ BO_ 7 "two lines \'quoted\' /";',
+    'BA_DEF_ BO_  "GenMsgCycleTime" FLOAT 0 32767.5;',
+    'BA_ "GenMsgCycleTime" BO_ 7 2.5;',
+    'VAL_ 7 Shared 0 "say \'no\'" -1 "b/" ;',
+]
+SMALL = 'tick_ms = 1\nnodes = ["V"]\n[ipdu.A]\nsender = "V"\nsize_in_bytes = 4\ndeadline_ms = 1\n'
+ON_A = 'ipdu = "A"\nstart_bit = 0\nsize_in_bits = 4\n'
+NOT_WRITTEN = [
+    ("no identifier", SMALL, "a.toml: ipdu.A.id: is missing, and a DBC needs it"),
+    ("a name twice", f'{SMALL}id = 1\n[message.X]\n{ON_A}[message."B.X"]\n{ON_A}', "a.toml: message.B.X: is X in a DBC, and so is X"),
+]

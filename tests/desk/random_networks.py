@@ -1,0 +1,54 @@
+"""Random networks as TOML files, for tests: I-PDUs of all modes and messages of all sizes, orders and signs, with scalings, queues and filters."""
+import random
+
+from desk import bits
+
+NODES = ["VAN", "CASE", "DOOR"]
+FACTORS = ["1", "0.1", "0.25", "2", "-0.5", "0.000001", "12345.678"]
+OFFSETS = ["0", "-40", "0.5", "1000"]
+UNITS = ["", "%", "°C", "lx", "g/m³", "km/h"]
+FILTERS = ["", 'filter = "NewIsDifferent"', 'filter = { algorithm = "OneEveryN", period = 3, offset = 1 }', 'filter = "Never"']
+
+
+def random_message(name, ipdu, length, receivers, for_all):
+    """The lines of a message, which has all the receivers or perhaps the first alone."""
+    size = random.randint(1, min(32, 8 * length))
+    big, signed = random.random() < 0.5, random.random() < 0.5
+    start = random.choice([start for start in range(8 * length) if bits.fits(start, size, big, length)])
+    lines = [f'[message."{name}"]', f'ipdu = "{ipdu}"', f"start_bit = {start}", f"size_in_bits = {size}", f'byte_order = "{"big" if big else "little"}"']
+    lines += [f"signed = {str(signed).lower()}", f"factor = {random.choice(FACTORS)}", f"offset = {random.choice(OFFSETS)}"]
+    lines += [f'unit = "{random.choice(UNITS)}"', random.choice(FILTERS)]
+    lines.append(f"initial_value_raw = {random.choice([0, random.randint(bits.least(size, signed), bits.greatest(size, signed))])}")
+    lines.append(random.choice(["", 'transfer_property = "pending"', 'transfer_property = "triggered"']))
+    lines.append(random.choice(["", 'values = { 0 = "off", 1 = "on" }', 'comment = "It says \\"on\\"; or so"']))
+    if receivers:
+        lines += [random.choice(["", f"receiver.{receivers[0]} = {{ queue_size = 3 }}"]), "" if for_all else random.choice(["", f'receivers = ["{receivers[0]}"]'])]
+    return lines
+
+
+def random_ipdu(name, identifier, tick):
+    """Its lines, length and receivers."""
+    sender = random.choice(NODES)
+    receivers = random.sample([node for node in NODES if node != sender], random.randint(0, 2))
+    length, extended = random.randint(1, 8), random.random() < 0.3
+    mode = random.choice(["direct", "periodic", "mixed"])
+    lines = [f"[ipdu.{name}]", f'sender = "{sender}"', f"receivers = {receivers}", f"size_in_bytes = {length}", f"id = {identifier + (0x18FF0000 if extended else 0)}"]
+    lines += [f"extended = {str(extended).lower()}", f'transmission_mode = "{mode}"', f"deadline_ms = {5 * tick}"]
+    if mode != "direct":
+        lines += [f"time_period_ms = {random.randint(1, 100) * tick}", random.choice(["", f"time_offset_ms = {random.randint(1, 100) * tick}"])]
+    if mode != "periodic":
+        lines.append(f"minimum_delay_time_ms = {random.randint(0, 20) * tick}")
+    return lines, length, receivers
+
+
+def random_toml():
+    """A TOML file. Some messages of different I-PDUs share the name that a DBC gives them."""
+    tick = random.choice([1, 5, 10, 0.5])
+    lines = [f"tick_ms = {tick}", f"nodes = {NODES}"]
+    for number in range(random.randint(1, 6)):
+        ipdu, length, receivers = random_ipdu(f"Frame{number}", 0x100 + number, tick)
+        lines += ipdu
+        for count in range(random.randint(1, 6)):
+            name = f"Frame{number}.Shared" if count == 0 else f"Signal{number}_{count}"
+            lines += random_message(name, f"Frame{number}", length, receivers, count == 0)
+    return "\n".join(lines) + "\n"

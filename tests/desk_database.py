@@ -1,0 +1,199 @@
+#!/usr/bin/env python3
+"""What tools/desk/database.py makes of DBC, KCD and ARXML files: examples/climate.dbc, each rule of its own, each refusal and each wrong file by its line.
+Then tools/desk/dbc.py: a network as a DBC and back is the same. Needs Debian's python3-canmatrix, and for KCD and ARXML python3-lxml; left out without."""
+import os
+import random
+import subprocess
+import sys
+import tempfile
+
+sys.dont_write_bytecode = True
+TOP = os.path.join(os.path.dirname(os.path.realpath(__file__)), "..")
+sys.path[:0] = [os.path.join(TOP, "tools"), os.path.join(TOP, "tests", "desk")]
+
+import database_cases as cases
+from desk import database
+from desk.dbc import dbc, encoded
+from desk.source import load
+from desk.wrong import Wrong, write
+from random_networks import random_toml
+
+NETWORKS = 150  # random ones
+
+
+def fail(what, found, expected):
+    sys.exit(f"desk_database.py: {what}:\n  is        {found}\n  should be {expected}")
+
+
+def same(what, found, expected):
+    if found != expected:
+        fail(what, found, expected)
+
+
+class Folder:
+    """Files in a folder of its own, which messages do not name."""
+
+    def __init__(self, path):
+        self.path = path
+
+    def file(self, name, data):
+        write(os.path.join(self.path, name), data)
+        return os.path.join(self.path, name)
+
+    def refusal(self, act, *arguments):
+        """The lines of the Wrong that an act ends in, or none."""
+        try:
+            act(*arguments)
+        except Wrong as error:
+            return [line.replace(self.path + os.sep, "") for line in error.lines]
+        return []
+
+
+def test_climate():
+    found = database.read(os.path.join(TOP, "examples", "climate.dbc"))
+    same("climate.dbc, nodes", found["nodes"], ["VAN", "CASE", "GATEWAY"])
+    same("climate.dbc, I-PDUs", list(found["ipdu"].items()), list(cases.CLIMATE_IPDUS.items()))
+    same("climate.dbc, messages", list(found["message"].items()), list(cases.CLIMATE_MESSAGES.items()))
+    numbers = [value for section in found["message"].values() for value in section.values() if isinstance(value, float)]
+    same("climate.dbc, floats", numbers, [])
+
+
+def test_readings(folder):
+    for what, lines, ipdu, message in cases.READINGS:
+        found = database.read(folder.file("a.dbc", cases.dbc_text(lines)))
+        same(f"{what}, I-PDU", {key: found["ipdu"]["Frame"].get(key) for key in ipdu}, ipdu)
+        same(f"{what}, message", {key: found["message"]["Signal"].get(key) for key in message}, message)
+    for word, mode in cases.send_types():
+        for cycle in (0, 100):
+            for given in cases.attribute_ways("BO_", "GenMsgSendType", "BO_ 100", word):
+                text = cases.dbc_text([cases.FRAME, cases.SIGNAL, *cases.CYCLE, f'BA_ "GenMsgCycleTime" BO_ 100 {cycle};', *given])
+                ipdu = database.read(folder.file("a.dbc", text))["ipdu"]["Frame"]
+                expected = mode if mode != "as timed" else "periodic" if cycle else "direct"
+                same(f"{word} with a cycle of {cycle}", (ipdu.get("transmission_mode"), "transmission_mode" in ipdu.get("refused", {})),
+                     (expected, expected is None))
+                same(f"{word}, its period", "time_period_ms" in ipdu, expected != "direct")
+    for word, expected in cases.SIGNAL_SEND_TYPES.items():
+        for given in cases.attribute_ways("SG_", "GenSigSendType", "SG_ 100 Signal", word):
+            message = database.read(folder.file("a.dbc", cases.dbc_text([cases.FRAME, cases.SIGNAL, *given])))["message"]["Signal"]
+            keys = {key: message[key] for key in ("transfer_property", "filter") if key in message}
+            same(f"signal {word}", (keys, "transfer_property" in message.get("refused", {})), (expected or {}, expected is None))
+
+
+def test_refusals(folder):
+    for what, lines, toml, expected in cases.REFUSALS:
+        folder.file("a.dbc", cases.dbc_text(lines))
+        same(what, folder.refusal(load, folder.file("a.toml", cases.TOML + toml)), expected)
+
+
+def test_wrong_files(folder):
+    for name, data, expected in cases.WRONG_FILES:
+        same(f"{name} with {data[:60]}", folder.refusal(database.read, folder.file(name, data)), [expected])
+    same("a missing file", folder.refusal(database.read, os.path.join(folder.path, "none.dbc")), ["none.dbc: can't be read: No such file or directory"])
+    program = "import sys; sys.modules['canmatrix'] = None; from desk import database; database.DEBIAN = sys.executable; database.read(sys.argv[1])"
+    run = subprocess.run([sys.executable, "-Bc", program, folder.file("a.dbc", cases.dbc_text([]))], cwd=os.path.join(TOP, "tools"), capture_output=True, check=False)
+    same("no canmatrix", run.stderr.decode().splitlines()[-1].replace(folder.path + os.sep, ""), "desk.wrong.Wrong: a.dbc: " + database.NEEDED)
+    run = subprocess.run([sys.executable, "-Bc", "from desk import database; database.read('../examples/climate.dbc')"], cwd=os.path.join(TOP, "tools"),
+                         capture_output=True, check=True)
+    same("what canmatrix says", (run.stdout, run.stderr), (b"", b""))
+
+
+def test_other_formats(folder):
+    """KCD and ARXML as canmatrix itself writes them. False where lxml is missing."""
+    formats = database.library("")
+    if "kcd" not in formats.supportedFormats:
+        return False
+    bus = database.load(os.path.join(TOP, "examples", "climate.dbc"))
+    for kind in ("kcd", "arxml"):
+        path = os.path.join(folder.path, "climate." + kind)
+        with database.caught():
+            formats.dumpp({"climate": bus}, path)
+        found = database.read(path)
+        prefix, lost = cases.LOST[kind]
+        for name, section in cases.CLIMATE_IPDUS.items():
+            expected = {key: value for key, value in section.items() if key not in lost}
+            same(f"{kind}, {name}", {key: found["ipdu"][prefix + name].get(key) for key in expected}, expected)
+        for name, section in cases.CLIMATE_MESSAGES.items():
+            expected = {key: value for key, value in section.items() if key not in lost} | {"ipdu": prefix + section["ipdu"]}
+            same(f"{kind}, {name}", {key: found["message"][name].get(key) for key in expected}, expected)
+    for name, text, ipdu, message in cases.XML_READINGS:
+        found = database.read(folder.file(name, text))
+        same(f"{name}, I-PDU", found["ipdu"].get("Frame"), ipdu)
+        same(f"{name}, message", found["message"].get("Signal"), message)
+    for name, text, expected in cases.WRONG_XML:
+        same(f"{name} with {text[:60]}", folder.refusal(database.read, folder.file(name, text)), [expected])
+    return True
+
+
+# a network as a DBC, and back
+
+def carried(network):
+    """What a DBC has a word for."""
+    ipdus = [(ipdu.name, ipdu.length, ipdu.identifier, ipdu.extended, ipdu.sender, ipdu.mode, ipdu.period, ipdu.offset, ipdu.minimum_delay)
+             for ipdu in network.ipdus]
+    messages = {}
+    for message in network.messages:
+        if message.ipdu is not None and message.sender() is not None:
+            name = message.name.rpartition(".")[2]
+            scaling = message.scaling
+            messages[message.ipdu.name, name] = (message.placed(), message.signed, scaling.factor, scaling.offset, scaling.unit, scaling.names, message.transfer,
+                                                 message.initial, message.filter.name == "NewIsDifferent" and not message.transfer, list(message.receivers))
+    return ipdus, messages
+
+
+def without_unsaid(board):
+    """The records of a board by name, but for deadlines, filters, queues and receivers inside."""
+    ipdus = [(ipdu.name, record.direction, record.length, record.mode, record.period, record.offset, record.minimum_delay)
+             for ipdu, record in zip(board.ipdus, board.ipdu_records)]
+    objects = {(board.ipdu_name(record.ipdu), entry.name.rpartition(".")[2]): (record.kind, record.start, record.bits, record.order, record.transfer, record.initial)
+               for entry in board.objects for record in [entry.record] if record.ipdu < len(board.ipdus) and entry.of.receives is None and entry.of.ipdu}
+    return ipdus, objects
+
+
+def check_back(folder, what, network):
+    """The network that its DBC gives back."""
+    folder.file("back.dbc", encoded(dbc(network)))
+    toml = f"database = \"back.dbc\"\ntick_ms = {network.tick}\nnodes = {network.nodes}\ndefaults.deadline_ms = {network.tick}\n"
+    again = load(folder.file("back.toml", toml))
+    same(f"{what}, back", carried(again), carried(network))
+    for board, other in zip(network.boards(), again.boards()):
+        same(f"{what}, table of {board.node}", without_unsaid(other), without_unsaid(board))
+    return len(again.messages)
+
+
+def test_back(folder):
+    count = sum(check_back(folder, name, load(os.path.join(TOP, "examples", name))) for name in ("van.toml", "climate.toml"))
+    text = dbc(load(folder.file("odd.toml", cases.ODD_TEXTS)))
+    same("odd texts", [line for line in cases.ODD_LINES if line not in text.splitlines()], [])
+    shared = database.read(folder.file("odd.dbc", encoded(text)))["message"]["Shared"]
+    same("odd texts, back", (shared["unit"], shared["values"], shared["dbc_start_bit"]), ("a/b'c", {"0": "say 'no'", "-1": "b/"}, 23))
+    random.seed(310)
+    for number in range(NETWORKS):
+        toml = random_toml()
+        try:
+            count += check_back(folder, f"network {number}", load(folder.file("random.toml", toml)))
+        except Wrong as error:
+            sys.exit(f"desk_database.py: network {number}: {error}\n{toml}")
+    for what, toml, expected in cases.NOT_WRITTEN:
+        same(what, folder.refusal(lambda: dbc(load(folder.file("a.toml", toml)))), [expected])
+    return count
+
+
+def main():
+    try:
+        database.library("desk_database.py")
+    except Wrong:
+        print("desk_database.py: left out: python3-canmatrix is not on this machine")
+        return
+    with tempfile.TemporaryDirectory() as path:
+        folder = Folder(path)
+        test_climate()
+        test_readings(folder)
+        test_refusals(folder)
+        test_wrong_files(folder)
+        others = test_other_formats(folder)
+        count = test_back(folder)
+    print(f"desk_database.py: {len(cases.READINGS)} readings, {len(cases.REFUSALS)} refusals, {len(cases.WRONG_FILES)} wrong files; {count} messages of "
+          f"{NETWORKS + 2} networks are the same after a DBC" + ("" if others else "; KCD and ARXML left out: python3-lxml is not on this machine"))
+
+
+main()
