@@ -5,6 +5,7 @@ import logging
 import os
 import subprocess
 import sys
+from collections import Counter
 from decimal import Decimal, InvalidOperation
 from itertools import chain
 
@@ -67,13 +68,13 @@ def read(path):
     frames = [frame for frame in matrix.frames if frame.name != FREE_SIGNALS]
     check_once(path, "frame", [frame.name for frame in frames])
     check_once(path, "identifier", [f"0x{frame.arbitration_id.id:X}{' (extended)' if frame.arbitration_id.extended else ''}" for frame in frames])
-    names = [signal.name for frame in frames for signal in frame.signals]
+    names = Counter(signal.name for frame in frames for signal in frame.signals)
     database = {"nodes": node_names(ecu.name for ecu in matrix.ecus), "ipdu": {}, "message": {}}
     for frame in frames:
         check_once(path, f"signal of {frame.name}", [signal.name for signal in frame.signals])
         database["ipdu"][frame.name] = ipdu(matrix, frame)
         for signal in frame.signals:
-            name = signal.name if names.count(signal.name) == 1 else f"{frame.name}.{signal.name}"
+            name = signal.name if names[signal.name] == 1 else f"{frame.name}.{signal.name}"
             database["message"][name] = message(matrix, frame, signal)
     return database
 
@@ -103,8 +104,8 @@ def load(path):
 
 
 def check_once(path, what, names):
-    for name in names:
-        if names.count(name) > 1:
+    for name, count in Counter(names).items():
+        if count > 1:
             raise wrong(path, "", f"has the {what} {name} more than once")
 
 
