@@ -63,6 +63,8 @@ def test_readings(folder):
         found = database.read(folder.file("a.dbc", cases.dbc_text(lines)))
         same(f"{what}, I-PDU", {key: found["ipdu"]["Frame"].get(key) for key in ipdu}, ipdu)
         same(f"{what}, message", {key: found["message"]["Signal"].get(key) for key in message}, message)
+    for data in cases.BYTES:
+        same(f"the unit in {data}", database.read(folder.file("a.dbc", data))["message"]["Signal"]["unit"], "°C")
     for word, mode in cases.send_types():
         for cycle in (0, 100):
             for given in cases.attribute_ways("BO_", "GenMsgSendType", "BO_ 100", word):
@@ -115,10 +117,10 @@ def test_other_formats(folder):
         for name, section in cases.CLIMATE_MESSAGES.items():
             expected = {key: value for key, value in section.items() if key not in lost} | {"ipdu": prefix + section["ipdu"]}
             same(f"{kind}, {name}", {key: found["message"][name].get(key) for key in expected}, expected)
-    for name, text, ipdu, message in cases.XML_READINGS:
-        found = database.read(folder.file(name, text))
-        same(f"{name}, I-PDU", found["ipdu"].get("Frame"), ipdu)
-        same(f"{name}, message", found["message"].get("Signal"), message)
+    for text, ipdu in cases.XML_READINGS:
+        found = database.read(folder.file("a.kcd", text))
+        same(f"I-PDU of {text}", found["ipdu"], {"Frame": ipdu})
+        same(f"message of {text}", found["message"], {"Signal": cases.KCD_MESSAGE})
     for name, text, expected in cases.WRONG_XML:
         same(f"{name} with {text[:60]}", folder.refusal(database.read, folder.file(name, text)), [expected])
     return True

@@ -94,15 +94,23 @@ READINGS = [
     ("a negative start value", [FRAME, SIGNAL.replace("8@1+ (1,0)", "8@0- (0.5,-40)"), START, 'BA_ "GenSigStartValue" SG_ 100 Signal -3;'], {},
      {"initial_value_raw": -3, "signed": True, "byte_order": "big"}),
     ("a start value by default", [FRAME, SIGNAL.replace("(1,0)", "(2,7)"), START, 'BA_DEF_DEF_ "GenSigStartValue" 5;'], {}, {"initial_value_raw": 5}),
-    ("UTF-8", [FRAME, SIGNAL.replace('""', '"°C"')], {}, {"unit": "°C"}),
     ("a comment of two lines", [FRAME, SIGNAL, 'CM_ SG_ 100 Signal "one', 'BO_ 7 two";'], {}, {"comment": "one\nBO_ 7 two"}),
     ("signals in no frame", [FRAME, SIGNAL, "BO_ 3221225472 VECTOR__INDEPENDENT_SIG_MSG: 0 Vector__XXX", ' SG_ Free : 0|8@1+ (1,0) [0|0] "" Vector__XXX'], {}, {}),
-    ("lines of others", [FRAME, SIGNAL, 'EV_ Out: none;', 'BA_ "Other" BO_ 999 1;', "SIG_GROUP_ wrong"], {}, {}),
+    ("lines of others", [FRAME, SIGNAL, 'EV_ Out: none;', 'BA_DEF_ BO_ "Other" INT 0;', 'BA_ "Other" BO_ 999 1;', "SIG_GROUP_ wrong"], {}, {}),
+    ("a long name", [FRAME.replace("Frame", "F"), SIGNAL.replace("Signal", "S"), 'BA_DEF_ BO_ "SystemMessageLongSymbol" STRING ;',
+                     'BA_DEF_ SG_ "SystemSignalLongSymbol" STRING ;', 'BA_ "SystemMessageLongSymbol" BO_ 100 "Frame";',
+                     'BA_ "SystemSignalLongSymbol" SG_ 100 S "Signal";'], {"id": 100}, {"ipdu": "Frame"}),
     ("a multiplexed signal", [FRAME, ' SG_ Mux M : 0|4@1+ (1,0) [0|0] "" CASE', ' SG_ Signal m3 : 8|8@1+ (1,0) [0|0] "" CASE',
                               "SG_MUL_VAL_ 100 Signal Mux 3-3;", 'CM_ SG_ 100 Signal "Wind";'], {"refused": None}, {"comment": "Wind; while Mux is 3"}),
     ("a multiplexor", [FRAME, ' SG_ Signal M : 0|4@1+ (1,0) [0|0] "" CASE', ' SG_ A m0 : 8|8@1+ (1,0) [0|0] "" CASE', ' SG_ B m1 : 8|8@1+ (1,0) [0|0] "" CASE'],
      {"refused": None}, {"comment": "says which of the messages A, B the frame holds"}),
 ]
+
+# bytes of a file whose unit is in degrees
+
+DEGREES = dbc_text([FRAME, SIGNAL.replace('""', '"°C"')])
+BYTES = [DEGREES.encode("iso-8859-1"), DEGREES.encode(), b"\xef\xbb\xbf" + DEGREES.removeprefix('VERSION ""\nBU_: VAN CASE GATEWAY\n').encode(),
+         DEGREES.replace("\n", "\r\n").encode("iso-8859-1")]
 
 # refusals: lines, TOML, and what is said
 
@@ -172,14 +180,19 @@ WRONG_FILES = [
     ("a.dbc", dbc_text([FRAME, SIGNAL, "BO_\t101 Other: 8 VAN"]).encode(), "a.dbc: line 5: canmatrix passes over a BO_ there"),
     ("a.dbc", dbc_text([FRAME + SIGNAL]).encode(), "a.dbc: line 3: canmatrix passes over an SG_ there"),
     ("a.dbc", dbc_text(['CM_ BU_ VAN "two', 'lines"', ";", FRAME, SIGNAL]).encode(), "a.dbc: line 6: canmatrix passes over a BO_ there"),
+    ("a.dbc", dbc_text([FRAME, SIGNAL, START, 'BA_ "GenSigStartValue" SG_ 100 Signal', "5;"]).encode(),
+     'a.dbc: line 6: goes on in the next line, and canmatrix reads line by line: BA_ "GenSigStartValue" SG_ 100 Signal'),
+    ("a.dbc", dbc_text(["BO_ 3221225472 VECTOR__INDEPENDENT_SIG_MSG: 0 Vector__XXX", SIGNAL]).encode(), "a.dbc: holds no frame"),
     ("a.dbc", dbc_text([FRAME, SIGNAL, 'CM_ BO_ 100 "open;', "BO_ 101 Other: 8 VAN"]).encode(), "a.dbc: line 5: has a quote that is never closed"),
     ("a.dbc", dbc_text([FRAME, SIGNAL, *attribute_ways("BO_", "Any", "BO_ 100", "word")[0][:2], 'BA_ "Any" BO_ 100 2;']).encode(),
      "a.dbc: line 7: 2 is none of the 2 values of Any"),
     ("a.dbc", dbc_text([FRAME, SIGNAL, FRAME.replace("100", "101")]).encode(), "a.dbc: has the frame Frame more than once"),
     ("a.dbc", dbc_text([FRAME, SIGNAL, FRAME.replace("Frame", "Other")]).encode(), "a.dbc: has the identifier 0x64 more than once"),
     ("a.dbc", dbc_text([FRAME, SIGNAL, SIGNAL]).encode(), "a.dbc: has the signal of Frame Signal more than once"),
-    ("a.dbc", dbc_text([FRAME, SIGNAL, 'BA_DEF_ SG_ "GenSigCycleTime" STRING;', 'BA_ "GenSigCycleTime" SG_ 100 Signal "soon";']).encode(),
-     "a.dbc: canmatrix can't read it: invalid literal for int() with base 10: '\"soon\"'"),
+    ("a.dbc", dbc_text([FRAME, SIGNAL, START, 'BA_ "GenSigStartValue" SG_ 100 Signal "soon";']).encode(),
+     'a.dbc: line 6: "soon" is no number: BA_ "GenSigStartValue" SG_ 100 Signal "soon";'),
+    ("a.dbc", dbc_text([FRAME, SIGNAL, 'BA_ "GenSigCycleTime" SG_ 100 Signal 1.5;']).encode(),
+     "a.dbc: canmatrix can't read it: ValueError invalid literal for int() with base 10: '1.5'"),
 ]
 
 # KCD and ARXML: the prefix that canmatrix gives the frames when it writes them, and the keys that it does not write
@@ -194,16 +207,21 @@ KCD = """<?xml version="1.0" encoding="UTF-8"?>
 <Signal name="Signal" offset="16" length="12" endianess="big"><Consumer><NodeRef id="2"/></Consumer>
 <Value type="signed" slope="0.1" intercept="-40" unit="°C"/></Signal></Message></Bus>%s</NetworkDefinition>
 """
+KCD_IPDU = {"id": 0x120, "sender": "VAN", "size_in_bytes": 4, "transmission_mode": "periodic", "time_period_ms": 100}
+KCD_MESSAGE = {"ipdu": "Frame", "dbc_start_bit": 23, "size_in_bits": 12, "byte_order": "big", "signed": True, "factor": Decimal("0.1"), "offset": -40,
+               "unit": "°C", "minimum": Decimal("-244.8"), "maximum": Decimal("164.7"), "receivers": ["CASE"]}
 XML_READINGS = [
-    ("a.kcd", KCD % "",
-     {"id": 0x120, "sender": "VAN", "size_in_bytes": 4, "transmission_mode": "periodic", "time_period_ms": 100},
-     {"ipdu": "Frame", "dbc_start_bit": 23, "size_in_bits": 12, "byte_order": "big", "signed": True, "factor": Decimal("0.1"), "offset": -40, "unit": "°C",
-      "minimum": Decimal("-244.8"), "maximum": Decimal("164.7"), "receivers": ["CASE"]}),
+    (KCD % "", KCD_IPDU),
+    (KCD.replace('triggered="true" ', "") % "", KCD_IPDU),
+    (KCD.replace(' interval="100"', "") % "", {"id": 0x120, "sender": "VAN", "size_in_bytes": 4, "transmission_mode": "direct"}),
 ]
 WRONG_XML = [
-    ("a.kcd", "", "a.kcd: canmatrix can't read it: Document is empty, line 1, column 1"),
+    ("a.kcd", "", "a.kcd: canmatrix can't read it: no element found: line 1, column 0"),
     ("a.kcd", "<NetworkDefinition/>", "a.kcd: holds no frame"),
     ("a.kcd", KCD % KCD[KCD.index("<Bus"):KCD.index("%s")].replace("Cargo", "Cab"), "a.kcd: holds the buses Cargo, Cab: a file with one of them is needed"),
+    ("a.kcd", KCD.replace('name="Frame"', "") % "", "a.kcd: has a frame with no name"),
+    ("a.kcd", KCD.replace('name="Signal"', "") % "", "a.kcd: has a signal of Frame with no name"),
+    ("a.kcd", KCD.replace('<NodeRef id="2"/>', '<NodeRef id="3"/>') % "", "a.kcd: canmatrix can't read it: KeyError '3'"),
     ("a.arxml", "no XML", "a.arxml: canmatrix can't read it: Start tag expected, '<' not found, line 1, column 1"),
 ]
 

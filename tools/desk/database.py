@@ -8,6 +8,7 @@ import sys
 from collections import Counter
 from decimal import Decimal, InvalidOperation
 from itertools import chain
+from xml.etree import ElementTree
 
 from .dbc_lines import Lines
 from .sections import is_number
@@ -15,6 +16,7 @@ from .wrong import read_bytes, wrong
 
 DEBIAN = "/usr/bin/python3"  # the one Python that Debian's packages are for
 NEEDED = "needs Debian's python3-canmatrix: apt-get install python3-canmatrix python3-lxml"
+NO_FRAME = "holds no frame"
 NOBODY = "Vector__XXX"  # a DBC's word for no node
 FREE_SIGNALS = "VECTOR__INDEPENDENT_SIG_MSG"  # a DBC's word for the frame of signals in no frame
 
@@ -66,6 +68,8 @@ def read(path):
     """Nodes, I-PDUs and messages by name, with the keys of a TOML file. `refused` has, by key, why a section can't be taken as it is."""
     matrix = load(path)
     frames = [frame for frame in matrix.frames if frame.name != FREE_SIGNALS]
+    if not frames:
+        raise wrong(path, "", NO_FRAME)
     check_once(path, "frame", [frame.name for frame in frames])
     check_once(path, "identifier", [f"0x{frame.arbitration_id.id:X}{' (extended)' if frame.arbitration_id.extended else ''}" for frame in frames])
     names = Counter(signal.name for frame in frames for signal in frame.signals)
@@ -91,27 +95,41 @@ def load(path):
     lines = Lines(path, data) if kind == "dbc" else None
     with caught() as said:
         try:
-            buses = formats.loads(lines.data, kind, dbcImportEncoding=lines.encoding) if lines else formats.loads(data, kind)
+            if lines:
+                buses = formats.loads(lines.data, kind, dbcImportEncoding=lines.encoding)
+            else:
+                buses = formats.loads(with_intervals(data) if kind == "kcd" else data, kind)
         except Exception as error:  # whatever a wrong file makes of the library
-            reason = " ".join(str(getattr(error, "msg", error)).split())
-            raise wrong(path, "", f"canmatrix can't read it: {reason or type(error).__name__}") from None
+            reason = error.msg if isinstance(error, SyntaxError) else f"{type(error).__name__} {error}"
+            raise wrong(path, "", f"canmatrix can't read it: {' '.join(reason.split())}") from None
     if lines:
         lines.check(said.getvalue(), buses[""].frames)
     buses = {name: bus for name, bus in buses.items() if bus.frames}
     if len(buses) != 1:
-        raise wrong(path, "", f"holds the buses {', '.join(buses)}: a file with one of them is needed" if buses else "holds no frame")
+        raise wrong(path, "", f"holds the buses {', '.join(buses)}: a file with one of them is needed" if buses else NO_FRAME)
     return next(iter(buses.values()))
 
 
+def with_intervals(data):
+    """A KCD in which triggered and interval stand together, as they are optional: canmatrix passes over the one alone and falls over the other."""
+    root = ElementTree.fromstring(data)
+    for element in root.iter():
+        if element.tag.endswith("}Message") and {"triggered", "interval"} & set(element.attrib):
+            element.attrib = {"triggered": "false", "interval": "0", **element.attrib}
+    return ElementTree.tostring(root)
+
+
 def check_once(path, what, names):
+    if None in names:
+        raise wrong(path, "", f"has a {what} with no name")
     for name, count in Counter(names).items():
         if count > 1:
             raise wrong(path, "", f"has the {what} {name} more than once")
 
 
 def node_names(texts):
-    """The nodes in texts, each of which may name several."""
-    return [name for name in dict.fromkeys(chain.from_iterable(text.replace(",", " ").split() for text in texts)) if name != NOBODY]
+    """The nodes in texts, each of which may name several or be None."""
+    return [name for name in dict.fromkeys(chain.from_iterable((text or "").replace(",", " ").split() for text in texts)) if name != NOBODY]
 
 
 def number(value):
@@ -125,7 +143,7 @@ def number(value):
     return int(decimal) if decimal == decimal.to_integral_value() else decimal
 
 
-def said(section):
+def without_empty(section):
     """A section without the keys that have nothing to say."""
     return {key: value for key, value in section.items() if value is not None}
 
@@ -143,7 +161,7 @@ def ipdu(matrix, frame):
     if mode is None:
         word = frame.attribute("GenMsgSendType", db=matrix)
         refused["transmission_mode"] = f"GenMsgSendType is {word}, and there is direct, periodic and mixed; transmission_mode = .. in the TOML says which"
-    return said({
+    return without_empty({
         "id": frame.arbitration_id.id,
         "extended": frame.arbitration_id.extended or None,
         "sender": senders[0] if len(senders) == 1 else None,
@@ -190,7 +208,7 @@ def message(matrix, frame, signal):
     elif word.lower() not in NO_WORDS:
         refused["transfer_property"] = f"GenSigSendType is {word}, and there is triggered and pending; transfer_property = .. in the TOML says which"
     given = (signal.min, signal.max) != (0, 0)
-    return said({
+    return without_empty({
         "ipdu": frame.name,
         "dbc_start_bit": signal.get_startbit(bit_numbering=1),
         "size_in_bits": signal.size,

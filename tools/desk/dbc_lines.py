@@ -11,7 +11,10 @@ PLACE = re.compile(r"\b(BO_|SG_)\s+(\w+)")
 ENUM = re.compile(r'BA_DEF_ +\w\w_ +"([^"]+)" +ENUM +(.*);')
 ATTRIBUTE = re.compile(r'(BA_ +"([^"]+)" +(?:BO_ +\d+|SG_ +\d+ +\w+|BU_ +\w+) +)(.*?)( *;.*)', re.DOTALL)
 TEXT = re.compile(r'"(\\.|[^"\\])*"')
-OURS = re.compile(r'BA_ +"Gen(Msg|Sig)')  # the attributes that are looked at
+NUMERIC = re.compile(r"GenMsg\w*Time|GenSig(CycleTime|StartValue)")  # attributes that canmatrix takes for numbers
+NUMBER = re.compile(r"[+-]?(\d+\.?\d*|\.\d+)([eE][+-]?\d+)?")
+OURS = re.compile(r'BA_.*"Gen(Msg|Sig)')  # the attributes that are looked at
+ENDED = ("BA_ ", "BA_DEF_ ", "BA_DEF_DEF_ ", "VAL_ ", "BO_TX_BU_ ", "SIG_VALTYPE_ ", "SG_MUL_VAL_ ")  # statements with a semicolon at their end
 
 
 class Lines:
@@ -49,6 +52,8 @@ class Lines:
     def with_index(self, number, line):
         """A line whose attribute has a word of its enumeration, with the word's index."""
         found = ATTRIBUTE.match(line.strip())
+        if found and NUMERIC.fullmatch(found[2]) and not NUMBER.fullmatch(found[3]):
+            raise self.wrong(number, f"{found[3]} is no number: {line.strip()}")
         if not found or found[2] not in self.enums:
             return line
         words, value = self.enums[found[2]], found[3]
@@ -61,8 +66,11 @@ class Lines:
         """Refuses a line that canmatrix could not read: `said` is what it printed, each such line after a complaint; `frames` is what it has read."""
         complaints = set(said.splitlines())
         for number, line in self.statements:
-            if repr(self.lines[number - 1]) in complaints and matters(line.strip()):
-                raise self.wrong(number, f"can't be read: {line.strip()}")
+            statement = line.strip()
+            if statement.startswith(ENDED) and ";" not in TEXT.sub("", statement) and matters(statement):
+                raise self.wrong(number, f"goes on in the next line, and canmatrix reads line by line: {statement}")
+            if repr(self.lines[number - 1]) in complaints and matters(statement):
+                raise self.wrong(number, f"can't be read: {statement}")
         read = {}
         for frame in frames:
             read.setdefault((frame.arbitration_id.id, frame.arbitration_id.extended), []).append([signal.name for signal in frame.signals])
@@ -91,7 +99,7 @@ class Lines:
 
 def matters(line):
     """Whether a line has something that is read here."""
-    return bool(OURS.match(line)) if line.startswith("BA_ ") else not line.startswith(("EV_", "SIG_GROUP_"))
+    return bool(OURS.match(line)) if line.startswith("BA_") else not line.startswith(("EV_", "SIG_GROUP_"))
 
 
 def identifier_of(text):
