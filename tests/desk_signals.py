@@ -1,8 +1,8 @@
 #!/usr/bin/env python3
-"""Signals of random DBC files, from the file to the proved layer: tools/desk reads the file and makes the tables of a sender and of a receiver. The sender's
-frames are what canmatrix encodes, canmatrix decodes them to the values sent, and the receiver has from canmatrix's frames, also with noise in the bits of nobody,
-the values encoded. scapy packs and unpacks the same. Needs target/staticlib/libexports.a, gcc and Debian's python3-canmatrix; left out without. scapy's part
-needs python3-scapy, and is left out without."""
+"""Signals of random DBC files, from the file to the proved layer: tools/desk reads the file and makes the tables of a sender and of a receiver. The
+sender's frames are what canmatrix encodes, canmatrix decodes them to the values sent, and the receiver has from canmatrix's frames, also with noise in the
+bits of nobody, the values encoded. scapy packs and unpacks the same. Needs target/staticlib/libexports.a, gcc and Debian's python3-canmatrix; left out
+without. scapy's part needs python3-scapy, and is left out without."""
 import os
 import random
 import re

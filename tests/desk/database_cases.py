@@ -3,6 +3,7 @@ from decimal import Decimal
 
 FRAME = "BO_ 100 Frame: 8 VAN"
 SIGNAL = ' SG_ Signal : 0|8@1+ (1,0) [0|0] "" CASE'
+FREE = "BO_ 3221225472 VECTOR__INDEPENDENT_SIG_MSG: 0 Vector__XXX"
 CYCLE = ['BA_DEF_ BO_ "GenMsgCycleTime" INT 0 65535;', 'BA_DEF_DEF_ "GenMsgCycleTime" 0;']
 TOML = 'database = "a.dbc"\ntick_ms = 10\nnodes = ["VAN", "CASE"]\ndefaults.deadline_ms = 100\n'
 
@@ -73,18 +74,33 @@ def attribute_ways(kind, name, of, word):
             [define, f'BA_DEF_DEF_  "{name}" "{word}";']]
 
 
+def with_send_type(word):
+    return attribute_ways("BO_", "GenMsgSendType", "BO_ 100", word)[0]
+
+
 # readings: lines, and the keys of I-PDU and message that they give, None for none
 
+TIMES = [line for name, time in (("Cycle", 10), ("StartDelay", 20), ("Delay", 30))
+         for line in (f'BA_DEF_ BO_ "GenMsg{name}Time" INT 0 100;', f'BA_ "GenMsg{name}Time" BO_ 100 {time};')]
 START = 'BA_DEF_ SG_ "GenSigStartValue" FLOAT 0 0;'
 READINGS = [
     ("the least", [FRAME, SIGNAL],
-     {"id": 100, "extended": None, "sender": "VAN", "size_in_bytes": 8, "transmission_mode": "direct", "time_period_ms": None, "comment": None, "refused": None},
+     {"id": 100, "extended": None, "sender": "VAN", "size_in_bytes": 8, "transmission_mode": "direct", "time_period_ms": None, "comment": None,
+      "refused": None},
      {"ipdu": "Frame", "dbc_start_bit": 0, "size_in_bits": 8, "byte_order": None, "signed": None, "factor": None, "offset": None, "unit": None, "minimum": None,
       "maximum": None, "initial_value_raw": None, "receivers": ["CASE"], "values": None, "transfer_property": None, "filter": None, "comment": None}),
     ("nobody sends", ["BO_ 100 Frame: 8 Vector__XXX", SIGNAL], {"sender": None}, {"receivers": ["CASE"]}),
     ("nobody receives", [FRAME, SIGNAL.replace("CASE", "Vector__XXX")], {"sender": "VAN"}, {"receivers": []}),
     ("its sender is among the receivers", [FRAME, SIGNAL.replace("CASE", "VAN,CASE")], {}, {"receivers": ["CASE"]}),
-    ("blanks between receivers", [FRAME, SIGNAL.replace("CASE", "CASE GATEWAY")], {}, {"receivers": ["CASE", "GATEWAY"]}),
+    ("blanks between receivers", [FRAME, SIGNAL.replace("CASE", "CASE Vector__XXX GATEWAY")], {}, {"receivers": ["CASE", "GATEWAY"]}),
+    ("times of a direct frame", [FRAME, SIGNAL, *TIMES, *with_send_type("event")],
+     {"transmission_mode": "direct", "time_period_ms": None, "time_offset_ms": None, "minimum_delay_time_ms": 30}, {}),
+    ("times of a periodic frame", [FRAME, SIGNAL, *TIMES, *with_send_type("cyclic")],
+     {"transmission_mode": "periodic", "time_period_ms": 10, "time_offset_ms": 20, "minimum_delay_time_ms": None}, {}),
+    ("times of a mixed frame", [FRAME, SIGNAL, *TIMES, *with_send_type("mixed")],
+     {"transmission_mode": "mixed", "time_period_ms": 10, "time_offset_ms": 20, "minimum_delay_time_ms": 30}, {}),
+    ("times of a frame with an unknown mode", [FRAME, SIGNAL, *TIMES, *with_send_type("ifActive")],
+     {"transmission_mode": None, "time_period_ms": 10, "time_offset_ms": 20, "minimum_delay_time_ms": 30}, {}),
     ("a J1939 frame", [f"BO_ {0x98FEF1FE} Frame: 8 VAN", SIGNAL], {"id": 0x18FEF1FE, "extended": True}, {}),
     ("a cycle time by default", [FRAME, SIGNAL, CYCLE[0], 'BA_DEF_DEF_ "GenMsgCycleTime" 20;'], {"transmission_mode": "periodic", "time_period_ms": 20}, {}),
     ("a fraction of a millisecond", [FRAME, SIGNAL, 'BA_DEF_ BO_ "GenMsgCycleTime" FLOAT 0 10;', 'BA_ "GenMsgCycleTime" BO_ 100 2.5;'],
@@ -95,14 +111,15 @@ READINGS = [
      {"initial_value_raw": -3, "signed": True, "byte_order": "big"}),
     ("a start value by default", [FRAME, SIGNAL.replace("(1,0)", "(2,7)"), START, 'BA_DEF_DEF_ "GenSigStartValue" 5;'], {}, {"initial_value_raw": 5}),
     ("a comment of two lines", [FRAME, SIGNAL, 'CM_ SG_ 100 Signal "one', 'BO_ 7 two";'], {}, {"comment": "one\nBO_ 7 two"}),
-    ("signals in no frame", [FRAME, SIGNAL, "BO_ 3221225472 VECTOR__INDEPENDENT_SIG_MSG: 0 Vector__XXX", ' SG_ Free : 0|8@1+ (1,0) [0|0] "" Vector__XXX'], {}, {}),
+    ("signals in no frame", [FRAME, SIGNAL, FREE, SIGNAL], {}, {}),
     ("lines of others", [FRAME, SIGNAL, 'EV_ Out: none;', 'BA_DEF_ BO_ "Other" INT 0;', 'BA_ "Other" BO_ 999 1;', "SIG_GROUP_ wrong"], {}, {}),
     ("a long name", [FRAME.replace("Frame", "F"), SIGNAL.replace("Signal", "S"), 'BA_DEF_ BO_ "SystemMessageLongSymbol" STRING ;',
                      'BA_DEF_ SG_ "SystemSignalLongSymbol" STRING ;', 'BA_ "SystemMessageLongSymbol" BO_ 100 "Frame";',
                      'BA_ "SystemSignalLongSymbol" SG_ 100 S "Signal";'], {"id": 100}, {"ipdu": "Frame"}),
     ("a multiplexed signal", [FRAME, ' SG_ Mux M : 0|4@1+ (1,0) [0|0] "" CASE', ' SG_ Signal m3 : 8|8@1+ (1,0) [0|0] "" CASE',
                               "SG_MUL_VAL_ 100 Signal Mux 3-3;", 'CM_ SG_ 100 Signal "Wind";'], {"refused": None}, {"comment": "Wind; while Mux is 3"}),
-    ("a multiplexor", [FRAME, ' SG_ Signal M : 0|4@1+ (1,0) [0|0] "" CASE', ' SG_ A m0 : 8|8@1+ (1,0) [0|0] "" CASE', ' SG_ B m1 : 8|8@1+ (1,0) [0|0] "" CASE'],
+    ("a multiplexor", [FRAME, ' SG_ Signal M : 0|4@1+ (1,0) [0|0] "" CASE', ' SG_ A m0 : 8|8@1+ (1,0) [0|0] "" CASE',
+                       ' SG_ B m1 : 8|8@1+ (1,0) [0|0] "" CASE'],
      {"refused": None}, {"comment": "says which of the messages A, B the frame holds"}),
 ]
 
@@ -119,7 +136,8 @@ def of_others(lines):
     return [line.replace("VAN", "GATEWAY").replace("CASE", "Vector__XXX") for line in lines]
 
 
-WITH_TYPE = [FRAME, SIGNAL, *attribute_ways("BO_", "GenMsgSendType", "BO_ 100", "cyclicIfActive")[0]]
+WITH_TYPE = [FRAME, SIGNAL, *with_send_type("cyclicIfActive")]
+NO_SENDER = ["BO_ 100 Frame: 8 Vector__XXX", SIGNAL, *TIMES]
 SIGNAL_TYPE = [FRAME, SIGNAL, *attribute_ways("SG_", "GenSigSendType", "SG_ 100 Signal", "IfActive")[0]]
 FLOAT = [FRAME, SIGNAL.replace("0|8", "0|32"), "SIG_VALTYPE_ 100 Signal : 1;"]
 TWO_SENDERS = [FRAME, SIGNAL, "BO_TX_BU_ 100 : VAN,GATEWAY;"]
@@ -149,7 +167,11 @@ REFUSALS = [
     ("a range of a multiplexor", [FRAME, ' SG_ A M : 0|4@1+ (1,0) [0|0] "" CASE', ' SG_ B m0 : 8|8@1+ (1,0) [0|0] "" CASE', "SG_MUL_VAL_ 100 B A 0-3;"], "",
      [f"a.dbc: ipdu.Frame: {MULTIPLEX}"]),
     ("m0 with no multiplexor", [FRAME, ' SG_ B m0 : 8|8@1+ (1,0) [0|0] "" CASE'], "", [f"a.dbc: ipdu.Frame: {MULTIPLEX}"]),
-    ("a cyclic frame with no cycle", [FRAME, SIGNAL, *attribute_ways("BO_", "GenMsgSendType", "BO_ 100", "cyclic")[0]], "",
+    ("two multiplexors", [FRAME, ' SG_ A M : 0|4@1+ (1,0) [0|0] "" CASE', ' SG_ B M : 8|8@1+ (1,0) [0|0] "" CASE'], "", [f"a.dbc: ipdu.Frame: {MULTIPLEX}"]),
+    ("times with no sender", NO_SENDER, "", []),
+    ("times with a sender from the TOML", NO_SENDER, '[ipdu.Frame]\nsender = "VAN"\ntime_offset_ms = 25\n',
+     ["a.toml: ipdu.Frame.time_offset_ms: 25 ms is no whole number of ticks of 10 ms: 2 ticks are 20 ms, 3 are 30 ms"]),
+    ("a cyclic frame with no cycle", [FRAME, SIGNAL, *with_send_type("cyclic")], "",
      ["a.dbc: ipdu.Frame.time_period_ms: 0 ms are 0 ticks of 10 ms, has to be 1 to 65535 ticks"]),
     ("a cycle out of proportion", [FRAME, SIGNAL, *CYCLE, 'BA_ "GenMsgCycleTime" BO_ 100 1e99;'], "",
      ['a.dbc: ipdu.Frame.time_period_ms: is "1e99", has to be a number']),
@@ -182,7 +204,7 @@ WRONG_FILES = [
     ("a.dbc", dbc_text(['CM_ BU_ VAN "two', 'lines"', ";", FRAME, SIGNAL]).encode(), "a.dbc: line 6: canmatrix passes over a BO_ there"),
     ("a.dbc", dbc_text([FRAME, SIGNAL, START, 'BA_ "GenSigStartValue" SG_ 100 Signal', "5;"]).encode(),
      'a.dbc: line 6: goes on in the next line, and canmatrix reads line by line: BA_ "GenSigStartValue" SG_ 100 Signal'),
-    ("a.dbc", dbc_text(["BO_ 3221225472 VECTOR__INDEPENDENT_SIG_MSG: 0 Vector__XXX", SIGNAL]).encode(), "a.dbc: holds no frame"),
+    ("a.dbc", dbc_text([FREE, SIGNAL]).encode(), "a.dbc: holds no frame"),
     ("a.dbc", dbc_text([FRAME, SIGNAL, 'CM_ BO_ 100 "open;', "BO_ 101 Other: 8 VAN"]).encode(), "a.dbc: line 5: has a quote that is never closed"),
     ("a.dbc", dbc_text([FRAME, SIGNAL, *attribute_ways("BO_", "Any", "BO_ 100", "word")[0][:2], 'BA_ "Any" BO_ 100 2;']).encode(),
      "a.dbc: line 7: 2 is none of the 2 values of Any"),
@@ -245,18 +267,42 @@ ipdu = "Frame"
 start_bit = 28
 size_in_bits = 12
 byte_order = "big"
+signed = true
 factor = -0.5
+initial_value = 1.5
 unit = 'a\\b"c'
 values = { 0 = 'say "no"', -1 = "b\\\\" }
+[message.Own]
+node = "V"
+ipdu = "Frame"
+start_bit = 0
+size_in_bits = 1
+[message.View]
+node = "Case.Two"
+ipdu = "Frame"
+start_bit = 0
+size_in_bits = 8
+[message.Inside]
+receives = "Frame.Shared"
+[ipdu.Lone]
+id = 8
+size_in_bytes = 2
 """
 ODD_LINES = [
     "BU_: V Two Road",
-    ' SG_ Shared : 23|12@0+ (-0.5,0) [-2047.5|0.0] "a/b\'c"  Two',
+    "BO_ 7 Frame: 4 V",
+    ' SG_ Shared : 23|12@0- (-0.5,0) [-1023.5|1024.0] "a/b\'c"  Two',
+    ' SG_ Own : 0|1@1+ (1,0) [0|1] ""  Vector__XXX',
+    "BO_ 8 Lone: 2 Vector__XXX",
     'CM_ BO_ 7 "two lines \'quoted\' /";',
     'BA_DEF_ BO_  "GenMsgCycleTime" FLOAT 0 32767.5;',
     'BA_ "GenMsgCycleTime" BO_ 7 2.5;',
+    'BA_ "GenMsgStartDelayTime" BO_ 7 2.5;',
+    'BA_ "GenMsgSendType" BO_ 7 1;',
+    'BA_ "GenSigStartValue" SG_ 7 Shared -3;',
     'VAL_ 7 Shared 0 "say \'no\'" -1 "b/" ;',
 ]
+ODD_STARTS = ("BU_", "BO_", " SG_", "CM_ BO_", "CM_ SG_", 'BA_DEF_ BO_  "GenMsgCycleTime"', "BA_ ", "VAL_")  # all their lines are the above
 SMALL = 'tick_ms = 1\nnodes = ["V"]\n[ipdu.A]\nsender = "V"\nsize_in_bytes = 4\ndeadline_ms = 1\n'
 ON_A = 'ipdu = "A"\nstart_bit = 0\nsize_in_bits = 4\n'
 NOT_WRITTEN = [

@@ -22,7 +22,8 @@ def random_message(name, ipdu, length, receivers, for_all):
     lines.append(random.choice(["", 'transfer_property = "pending"', 'transfer_property = "triggered"']))
     lines.append(random.choice(["", 'values = { 0 = "off", 1 = "on" }', 'comment = "It says \\"on\\"; or so"']))
     if receivers:
-        lines += [random.choice(["", f"receiver.{receivers[0]} = {{ queue_size = 3 }}"]), "" if for_all else random.choice(["", f'receivers = ["{receivers[0]}"]'])]
+        lines.append(random.choice(["", f"receiver.{receivers[0]} = {{ queue_size = 3 }}"]))
+        lines.append("" if for_all else random.choice(["", f'receivers = ["{receivers[0]}"]']))
     return lines
 
 
@@ -32,8 +33,9 @@ def random_ipdu(name, identifier, tick):
     receivers = random.sample([node for node in NODES if node != sender], random.randint(0, 2))
     length, extended = random.randint(1, 8), random.random() < 0.3
     mode = random.choice(["direct", "periodic", "mixed"])
-    lines = [f"[ipdu.{name}]", f'sender = "{sender}"', f"receivers = {receivers}", f"size_in_bytes = {length}", f"id = {identifier + (0x18FF0000 if extended else 0)}"]
-    lines += [f"extended = {str(extended).lower()}", f'transmission_mode = "{mode}"', f"deadline_ms = {5 * tick}"]
+    lines = [f"[ipdu.{name}]", f'sender = "{sender}"', f"receivers = {receivers}", f"size_in_bytes = {length}"]
+    lines += [f"id = {identifier + (0x18FF0000 if extended else 0)}", f"extended = {str(extended).lower()}"]
+    lines += [f'transmission_mode = "{mode}"', f"deadline_ms = {5 * tick}"]
     if mode != "direct":
         lines += [f"time_period_ms = {random.randint(1, 100) * tick}", random.choice(["", f"time_offset_ms = {random.randint(1, 100) * tick}"])]
     if mode != "periodic":

@@ -188,11 +188,11 @@ def sending(matrix, frame):
 
 
 def is_extended_multiplex(frame):
-    """Whether there is more than one multiplexor with signals of one value each."""
+    """Whether there is more to it than one multiplexor, which is in each frame, and signals for one of its values each."""
+    switches = [signal.mux_val for signal in frame.signals if signal.is_multiplexer]
     held = [signal for signal in frame.signals if signal.mux_val is not None]
-    switches = [signal for signal in frame.signals if signal.is_multiplexer]
-    ranges = any(signal.mux_val_grp not in ([], [[signal.mux_val, signal.mux_val]]) for signal in frame.signals)
-    return ranges or len(switches) > 1 or any(signal.is_multiplexer for signal in held) or bool(held and not switches)
+    ranges = any(signal.mux_val_grp not in ([], [[signal.mux_val, signal.mux_val]]) for signal in held)
+    return ranges or bool(switches or held) and switches != [None]
 
 
 # signals
