@@ -97,6 +97,8 @@ def with_tools(program, *arguments):
 def test_wrong_files(folder):
     for name, data, expected in cases.WRONG_FILES:
         same(f"{name} with {data[:60]}", folder.refusal(database.read, folder.file(name, data)), [expected])
+    for lines, expected in cases.WRONG_LINES:
+        same(f"a DBC with {lines}", folder.refusal(database.read, folder.file("a.dbc", cases.dbc_text(lines))), ["a.dbc: " + expected])
     same("a missing file", folder.refusal(database.read, os.path.join(folder.path, "none.dbc")), ["none.dbc: can't be read: No such file or directory"])
     run = with_tools("sys.modules['canmatrix'] = None; database.DEBIAN = sys.executable; database.read(sys.argv[1])", folder.file("a.dbc", ""))
     same("no canmatrix", run.stderr.decode().splitlines()[-1].replace(folder.path + os.sep, ""), "desk.wrong.Wrong: a.dbc: " + database.NEEDED)
@@ -203,8 +205,9 @@ def main():
         test_wrong_files(folder)
         others = test_other_formats(folder)
         count = test_back(folder)
-    print(f"desk_database.py: {len(cases.READINGS)} readings, {len(cases.REFUSALS)} refusals, {len(cases.WRONG_FILES)} wrong files; {count} messages of "
-          f"{NETWORKS + 2} networks are the same after a DBC" + ("" if others else "; KCD and ARXML left out: python3-lxml is not on this machine"))
+    wrong = len(cases.WRONG_FILES + cases.WRONG_LINES)
+    print(f"desk_database.py: {len(cases.READINGS)} readings, {len(cases.REFUSALS)} refusals, {wrong} wrong files; {count} messages of {NETWORKS + 2} networks are "
+          "the same after a DBC" + ("" if others else "; KCD and ARXML left out: python3-lxml is not on this machine"))
 
 
 main()

@@ -116,6 +116,9 @@ READINGS = [
     ("a long name", [FRAME.replace("Frame", "F"), SIGNAL.replace("Signal", "S"), 'BA_DEF_ BO_ "SystemMessageLongSymbol" STRING ;',
                      'BA_DEF_ SG_ "SystemSignalLongSymbol" STRING ;', 'BA_ "SystemMessageLongSymbol" BO_ 100 "Frame";',
                      'BA_ "SystemSignalLongSymbol" SG_ 100 S "Signal";'], {"id": 100}, {"ipdu": "Frame"}),
+    ("a send type with no definition", [FRAME, SIGNAL, 'BA_ "GenMsgSendType" BO_ 100 "mixed";'], {"transmission_mode": "mixed"}, {}),
+    ("an enumeration of numbers", [FRAME, SIGNAL, 'BA_DEF_ SG_ "GenSigSendType" ENUM "1","cyclic";', 'BA_ "GenSigSendType" SG_ 100 Signal 1;'], {}, PENDING),
+    ("a multiplexor alone", [FRAME, SIGNAL.replace(" :", " M :")], {"refused": None}, {"comment": None}),
     ("a multiplexed signal", [FRAME, ' SG_ Mux M : 0|4@1+ (1,0) [0|0] "" CASE', ' SG_ Signal m3 : 8|8@1+ (1,0) [0|0] "" CASE',
                               "SG_MUL_VAL_ 100 Signal Mux 3-3;", 'CM_ SG_ 100 Signal "Wind";'], {"refused": None}, {"comment": "Wind; while Mux is 3"}),
     ("a multiplexor", [FRAME, ' SG_ Signal M : 0|4@1+ (1,0) [0|0] "" CASE', ' SG_ A m0 : 8|8@1+ (1,0) [0|0] "" CASE',
@@ -126,8 +129,8 @@ READINGS = [
 # bytes of a file whose unit is in degrees
 
 DEGREES = dbc_text([FRAME, SIGNAL.replace('""', '"°C"')])
-BYTES = [DEGREES.encode("iso-8859-1"), DEGREES.encode(), b"\xef\xbb\xbf" + DEGREES.removeprefix('VERSION ""\nBU_: VAN CASE GATEWAY\n').encode(),
-         DEGREES.replace("\n", "\r\n").encode("iso-8859-1")]
+LATIN = DEGREES.encode("iso-8859-1")
+BYTES = [LATIN, LATIN + b'CM_ "\x81";\n', LATIN.replace(b"\n", b"\r\n"), DEGREES.encode(), b"\xef\xbb\xbf" + DEGREES[DEGREES.index("BO_"):].encode()]
 
 # refusals: lines, TOML, and what is said
 
@@ -183,38 +186,44 @@ REFUSALS = [
 
 # wrong files: name, bytes, and what is said
 
-BAD_SIGNAL = SIGNAL.replace("0|8", "zero|8")
 WRONG_FILES = [
     ("a.sym", b"{ENUMS}", "a.sym: is no database that can be read: its name has to end in .dbc, .kcd or .arxml"),
     ("a.dbc", b"", "a.dbc: holds no frame"),
     ("a.dbc", b"Dear reader,\nthis is no DBC.\n", "a.dbc: holds no frame"),
     ("a.dbc", b"\x7fELF\x02\x01\x01\x00\x00", "a.dbc: is no DBC: byte 7 is 0, and a DBC is text"),
-    ("a.dbc", b"\xfe\xed\xfa", "a.dbc: holds no frame"),
-    ("a.dbc", dbc_text([FRAME, SIGNAL, BAD_SIGNAL]).encode(), f"a.dbc: line 5: can't be read: {BAD_SIGNAL.strip()}"),
-    ("a.dbc", dbc_text([FRAME, SIGNAL.replace(" : ", " m : ")]).encode(), f"a.dbc: line 4: can't be read: {SIGNAL.strip().replace(' : ', ' m : ')}"),
-    ("a.dbc", dbc_text([FRAME, SIGNAL, "BO_ here Other: 8 VAN"]).encode(), "a.dbc: line 5: can't be read: BO_ here Other: 8 VAN"),
-    ("a.dbc", dbc_text([FRAME, SIGNAL, "BO_ 2048 Other: 8 VAN"]).encode(), "a.dbc: line 5: can't be read: BO_ 2048 Other: 8 VAN"),
-    ("a.dbc", dbc_text([FRAME, SIGNAL, "BO_ 101 Other 8 VAN"]).encode(), "a.dbc: line 5: can't be read: BO_ 101 Other 8 VAN"),
-    ("a.dbc", dbc_text([FRAME, SIGNAL, 'BA_ "GenMsgCycleTime" BO_ 99 1;']).encode(), 'a.dbc: line 5: can\'t be read: BA_ "GenMsgCycleTime" BO_ 99 1;'),
-    ("a.dbc", dbc_text([SIGNAL, FRAME]).encode(), f"a.dbc: line 3: can't be read: {SIGNAL.strip()}"),
-    ("a.dbc", dbc_text([SIGNAL.replace("SG_ ", "SG_\t"), FRAME]).encode(), "a.dbc: line 3: is a signal before the first frame"),
-    ("a.dbc", dbc_text([FRAME, SIGNAL, SIGNAL.replace("SG_ Signal", "SG_\tOther")]).encode(), "a.dbc: line 5: canmatrix passes over an SG_ there"),
-    ("a.dbc", dbc_text([FRAME, SIGNAL, "BO_\t101 Other: 8 VAN"]).encode(), "a.dbc: line 5: canmatrix passes over a BO_ there"),
-    ("a.dbc", dbc_text([FRAME + SIGNAL]).encode(), "a.dbc: line 3: canmatrix passes over an SG_ there"),
-    ("a.dbc", dbc_text(['CM_ BU_ VAN "two', 'lines"', ";", FRAME, SIGNAL]).encode(), "a.dbc: line 6: canmatrix passes over a BO_ there"),
-    ("a.dbc", dbc_text([FRAME, SIGNAL, START, 'BA_ "GenSigStartValue" SG_ 100 Signal', "5;"]).encode(),
-     'a.dbc: line 6: goes on in the next line, and canmatrix reads line by line: BA_ "GenSigStartValue" SG_ 100 Signal'),
-    ("a.dbc", dbc_text([FREE, SIGNAL]).encode(), "a.dbc: holds no frame"),
-    ("a.dbc", dbc_text([FRAME, SIGNAL, 'CM_ BO_ 100 "open;', "BO_ 101 Other: 8 VAN"]).encode(), "a.dbc: line 5: has a quote that is never closed"),
-    ("a.dbc", dbc_text([FRAME, SIGNAL, *attribute_ways("BO_", "Any", "BO_ 100", "word")[0][:2], 'BA_ "Any" BO_ 100 2;']).encode(),
-     "a.dbc: line 7: 2 is none of the 2 values of Any"),
-    ("a.dbc", dbc_text([FRAME, SIGNAL, FRAME.replace("100", "101")]).encode(), "a.dbc: has the frame Frame more than once"),
-    ("a.dbc", dbc_text([FRAME, SIGNAL, FRAME.replace("Frame", "Other")]).encode(), "a.dbc: has the identifier 0x64 more than once"),
-    ("a.dbc", dbc_text([FRAME, SIGNAL, SIGNAL]).encode(), "a.dbc: has the signal of Frame Signal more than once"),
-    ("a.dbc", dbc_text([FRAME, SIGNAL, START, 'BA_ "GenSigStartValue" SG_ 100 Signal "soon";']).encode(),
-     'a.dbc: line 6: "soon" is no number: BA_ "GenSigStartValue" SG_ 100 Signal "soon";'),
-    ("a.dbc", dbc_text([FRAME, SIGNAL, 'BA_ "GenSigCycleTime" SG_ 100 Signal 1.5;']).encode(),
-     "a.dbc: canmatrix can't read it: ValueError invalid literal for int() with base 10: '1.5'"),
+    ("a.dbc", b"\xfe\xed\xfa\x81", "a.dbc: holds no frame"),
+]
+# lines of a DBC, from its line 3 on, and what is said after its name
+
+BAD_SIGNAL = SIGNAL.replace("0|8", "zero|8")
+OTHER = "BO_ 101 Other: 8 VAN"
+ANY = 'BA_DEF_ BO_ "Any" ENUM "3","word";'
+WRONG_LINES = [
+    ([FREE, SIGNAL], "holds no frame"),
+    ([FRAME, SIGNAL, BAD_SIGNAL], f"line 5: can't be read: {BAD_SIGNAL.strip()}"),
+    ([FRAME, SIGNAL.replace(" : ", " m : ")], f"line 4: can't be read: {SIGNAL.strip().replace(' : ', ' m : ')}"),
+    ([FRAME, SIGNAL, "BO_ here Other: 8 VAN"], "line 5: can't be read: BO_ here Other: 8 VAN"),
+    ([FRAME, SIGNAL, "BO_ 2048 Other: 8 VAN"], "line 5: can't be read: BO_ 2048 Other: 8 VAN"),
+    ([FRAME, SIGNAL, "BO_ 101 Other 8 VAN"], "line 5: can't be read: BO_ 101 Other 8 VAN"),
+    ([FRAME, SIGNAL, "BO_ 101 " + 200 * "O"], "line 5: can't be read: BO_ 101 " + 92 * "O" + ".."),
+    ([FRAME, SIGNAL, 'BA_ "GenMsgCycleTime" BO_ 99 1;'], 'line 5: can\'t be read: BA_ "GenMsgCycleTime" BO_ 99 1;'),
+    ([SIGNAL, FRAME], f"line 3: can't be read: {SIGNAL.strip()}"),
+    ([SIGNAL.replace("SG_ ", "SG_\t"), FRAME], f"line 3: is a signal before the first frame: {SIGNAL.strip()}"),
+    ([FRAME, SIGNAL, "SG_\tOther"], "line 5: canmatrix passes over a signal there: SG_ Other"),
+    ([FRAME, SIGNAL, "SG_\tSignal"], f"line 3: canmatrix passes over a signal there: {FRAME}"),
+    ([FRAME, SIGNAL, OTHER.replace("BO_ ", "BO_\t")], f"line 5: canmatrix passes over this frame: {OTHER}"),
+    ([FRAME + SIGNAL], f"line 3: canmatrix passes over a signal there: {FRAME}{SIGNAL}"),
+    (['CM_ BU_ VAN "two', 'lines"', ";", FRAME, SIGNAL], f"line 6: canmatrix passes over this frame: {FRAME}"),
+    ([FRAME, SIGNAL, START, 'BA_ "GenSigStartValue" SG_ 100 Signal', "5;"],
+     'line 6: goes on in the next line, and canmatrix reads line by line: BA_ "GenSigStartValue" SG_ 100 Signal'),
+    ([FRAME, SIGNAL, 'CM_ BO_ 100 "open;', OTHER], 'line 5: a quote is never closed: CM_ BO_ 100 "open;'),
+    ([FRAME, SIGNAL, ANY, 'BA_ "Any" BO_ 100 3;'], 'line 6: 3 is none of the 2 values of Any: BA_ "Any" BO_ 100 3;'),
+    ([FRAME, SIGNAL, ANY, 'BA_ "Any" BO_ 100 "4";'], 'line 6: "4" is none of the 2 values of Any: BA_ "Any" BO_ 100 "4";'),
+    ([FRAME, SIGNAL, START, 'BA_ "GenSigStartValue" SG_ 100 Signal "5";'], 'line 6: "5" is no number: BA_ "GenSigStartValue" SG_ 100 Signal "5";'),
+    ([FRAME, SIGNAL, 'BA_ "GenSigCycleTime" SG_ 100 Signal 1.5;'], "canmatrix can't read it: ValueError invalid literal for int() with base 10: '1.5'"),
+    ([FRAME, SIGNAL, FRAME.replace("100", "101")], "has the frame Frame more than once"),
+    ([FRAME, SIGNAL, FRAME.replace("Frame", "Other")], "has the identifier 0x64 more than once"),
+    ([FRAME, SIGNAL, SIGNAL], "has the signal Frame.Signal more than once"),
 ]
 
 # KCD and ARXML: the prefix that canmatrix gives the frames when it writes them, and the keys that it does not write
@@ -242,7 +251,7 @@ WRONG_XML = [
     ("a.kcd", "<NetworkDefinition/>", "a.kcd: holds no frame"),
     ("a.kcd", KCD % KCD[KCD.index("<Bus"):KCD.index("%s")].replace("Cargo", "Cab"), "a.kcd: holds the buses Cargo, Cab: a file with one of them is needed"),
     ("a.kcd", KCD.replace('name="Frame"', "") % "", "a.kcd: has a frame with no name"),
-    ("a.kcd", KCD.replace('name="Signal"', "") % "", "a.kcd: has a signal of Frame with no name"),
+    ("a.kcd", KCD.replace('name="Signal"', "") % "", "a.kcd: has a signal with no name"),
     ("a.kcd", KCD.replace('<NodeRef id="2"/>', '<NodeRef id="3"/>') % "", "a.kcd: canmatrix can't read it: KeyError '3'"),
     ("a.arxml", "no XML", "a.arxml: canmatrix can't read it: Start tag expected, '<' not found, line 1, column 1"),
 ]

@@ -72,10 +72,10 @@ def read(path):
         raise wrong(path, "", NO_FRAME)
     check_once(path, "frame", [frame.name for frame in frames])
     check_once(path, "identifier", [f"0x{frame.arbitration_id.id:X}{' (extended)' if frame.arbitration_id.extended else ''}" for frame in frames])
+    check_once(path, "signal", [signal.name and f"{frame.name}.{signal.name}" for frame in frames for signal in frame.signals])
     names = Counter(signal.name for frame in frames for signal in frame.signals)
     database = {"nodes": node_names(ecu.name for ecu in matrix.ecus), "ipdu": {}, "message": {}}
     for frame in frames:
-        check_once(path, f"signal of {frame.name}", [signal.name for signal in frame.signals])
         database["ipdu"][frame.name] = ipdu(matrix, frame)
         for signal in frame.signals:
             name = signal.name if names[signal.name] == 1 else f"{frame.name}.{signal.name}"
@@ -148,6 +148,11 @@ def without_empty(section):
     return {key: value for key, value in section.items() if value is not None}
 
 
+def send_type(matrix, owner, attribute):
+    """The word of a frame or a signal, or none; quotes are about it where the attribute is not defined."""
+    return (owner.attribute(attribute, db=matrix) or "").strip('"')
+
+
 # frames
 
 def ipdu(matrix, frame):
@@ -159,7 +164,7 @@ def ipdu(matrix, frame):
         refused[""] = "has extended multiplexing, and plain (one multiplexor, with signals m0, m1 ..) is all that is read; leave_out leaves it out"
     mode, times = sending(matrix, frame)
     if mode is None:
-        word = frame.attribute("GenMsgSendType", db=matrix)
+        word = send_type(matrix, frame, "GenMsgSendType")
         refused["transmission_mode"] = f"GenMsgSendType is {word}, and there is direct, periodic and mixed; transmission_mode = .. in the TOML says which"
     return without_empty({
         "id": frame.arbitration_id.id,
@@ -177,7 +182,7 @@ def sending(matrix, frame):
     """The mode of a frame, None where its send type is not known, and the times that the mode has."""
     period = number(frame.attribute("GenMsgCycleTime", db=matrix, default=frame.cycle_time) or 0)
     offset, delay = (number(frame.attribute(name, db=matrix) or 0) or None for name in ("GenMsgStartDelayTime", "GenMsgDelayTime"))
-    word = (frame.attribute("GenMsgSendType", db=matrix) or "").lower()
+    word = send_type(matrix, frame, "GenMsgSendType").lower()
     if word in NO_WORDS:
         mode = "direct" if period == 0 else "periodic"
     else:
@@ -202,7 +207,7 @@ def message(matrix, frame, signal):
     if signal.is_float:
         refused[""] = "is a floating-point signal, and the layer carries whole numbers; leave_out leaves it out"
     transfer = {}
-    word = signal.attribute("GenSigSendType", db=matrix) or ""
+    word = send_type(matrix, signal, "GenSigSendType")
     if word.lower() in TRANSFER_WORDS:
         transfer = TRANSFER_WORDS[word.lower()]
     elif word.lower() not in NO_WORDS:
@@ -220,7 +225,7 @@ def message(matrix, frame, signal):
         "minimum": number(signal.min) if given else None,
         "maximum": number(signal.max) if given else None,
         "initial_value_raw": initial(matrix, signal) or None,
-        "receivers": [node for node in node_names(signal.receivers) if node not in frame.transmitters],
+        "receivers": [node for node in node_names(signal.receivers) if node not in node_names(frame.transmitters)],
         "values": {str(value): name for value, name in signal.values.items()} or None,
         **transfer,
         "comment": comment(frame, signal) or None,
@@ -239,8 +244,8 @@ def initial(matrix, signal):
 def comment(frame, signal):
     """A signal's comment, with what a multiplexor has to do with it."""
     words = [signal.comment.strip()] if signal.comment else []
-    if signal.is_multiplexer:
-        held = [other.name for other in frame.signals if other.mux_val is not None]
+    held = [other.name for other in frame.signals if other.mux_val is not None]
+    if signal.is_multiplexer and held:
         words.append(f"says which of the messages {', '.join(held)} the frame holds")
     elif signal.mux_val is not None:
         words += [f"while {switch.name} is {signal.mux_val}" for switch in frame.signals if switch.is_multiplexer]

@@ -5,11 +5,12 @@ import re
 
 from .wrong import wrong
 
+MOST_SHOWN = 100  # letters of a line
 EXTENDED = 0x1FFFFFFF  # the greatest CAN identifier
 QUOTE = re.compile(r'(?<!\\)"')
 PLACE = re.compile(r"\b(BO_|SG_)\s+(\w+)")
-ENUM = re.compile(r'BA_DEF_ +\w\w_ +"([^"]+)" +ENUM +(.*);')
-ATTRIBUTE = re.compile(r'(BA_ +"([^"]+)" +(?:BO_ +\d+|SG_ +\d+ +\w+|BU_ +\w+) +)(.*?)( *;.*)', re.DOTALL)
+ENUM = re.compile(r'BA_DEF_ +(\w\w_) +"([^"]+)" +ENUM +(.*);')
+ATTRIBUTE = re.compile(r'(BA_ +"([^"]+)" +(BO_|SG_|BU_)(?: +\w+){1,2} +)("[^"]*"|[^ ;"]+)( *;.*)')
 TEXT = re.compile(r'"(\\.|[^"\\])*"')
 NUMERIC = re.compile(r"GenMsg\w*Time|GenSig(CycleTime|StartValue)")  # attributes that canmatrix takes for numbers
 NUMBER = re.compile(r"[+-]?(\d+\.?\d*|\.\d+)([eE][+-]?\d+)?")
@@ -28,14 +29,16 @@ class Lines:
         self.encoding = encoding_of(data)
         lines = [line.decode(self.encoding) for line in io.BytesIO(data)]
         self.statements = self.outside_texts(lines)
-        self.enums = {found[1]: re.findall(r'"([^"]*)"', found[2]) for _, line in self.statements if (found := ENUM.match(line.strip()))}
+        self.enums = {(found[1], found[2]): re.findall('"[^"]*"', found[3]) for _, line in self.statements if (found := ENUM.match(line.strip()))}
         for number, line in self.statements:
             lines[number - 1] = self.with_index(number, line)
         self.lines = [line.encode(self.encoding) for line in lines]
         self.data = b"".join(self.lines)
 
-    def wrong(self, number, reason):
-        return wrong(self.file, f"line {number}", reason)
+    def wrong(self, number, reason, line):
+        """The reason with the line itself, as far as it can be printed."""
+        shown = "".join(letter if letter.isprintable() else " " for letter in line.strip())
+        return wrong(self.file, f"line {number}", f"{reason}: {shown[:MOST_SHOWN]}{'..' if len(shown) > MOST_SHOWN else ''}")
 
     def outside_texts(self, lines):
         """Number and text of each line that does not begin inside quotes."""
@@ -46,54 +49,59 @@ class Lines:
             if len(QUOTE.findall(line)) % 2:
                 opened = number if opened is None else None
         if opened is not None:
-            raise self.wrong(opened, "has a quote that is never closed")
+            raise self.wrong(opened, "a quote is never closed", lines[opened - 1])
         return found
 
     def with_index(self, number, line):
         """A line whose attribute has a word of its enumeration, with the word's index."""
         found = ATTRIBUTE.match(line.strip())
-        if found and NUMERIC.fullmatch(found[2]) and not NUMBER.fullmatch(found[3]):
-            raise self.wrong(number, f"{found[3]} is no number: {line.strip()}")
-        if not found or found[2] not in self.enums:
+        if not found:
             return line
-        words, value = self.enums[found[2]], found[3]
-        index = words.index(value.strip('"')) if value.strip('"') in words else int(value) if value.isdecimal() else len(words)
-        if index >= len(words):
-            raise self.wrong(number, f"{value} is none of the {len(words)} values of {found[2]}")
-        return f"{found[1]}{index}{found[4]}\n"
+        before, name, kind, value, after = found.groups()
+        if NUMERIC.fullmatch(name) and not NUMBER.fullmatch(value):
+            raise self.wrong(number, f"{value} is no number", line)
+        words = self.enums.get((kind, name))
+        if words is None or value in map(str, range(len(words))):
+            return line
+        if value not in words:
+            raise self.wrong(number, f"{value} is none of the {len(words)} values of {name}", line)
+        return f"{before}{words.index(value)}{after}\n"
 
     def check(self, said, frames):
         """Refuses a line that canmatrix could not read: `said` is what it printed, each such line after a complaint; `frames` is what it has read."""
         complaints = set(said.splitlines())
         for number, line in self.statements:
             statement = line.strip()
-            if statement.startswith(ENDED) and ";" not in TEXT.sub("", statement) and matters(statement):
-                raise self.wrong(number, f"goes on in the next line, and canmatrix reads line by line: {statement}")
-            if repr(self.lines[number - 1]) in complaints and matters(statement):
-                raise self.wrong(number, f"can't be read: {statement}")
+            if not matters(statement):
+                continue
+            if statement.startswith(ENDED) and ";" not in TEXT.sub("", statement):
+                raise self.wrong(number, "goes on in the next line, and canmatrix reads line by line", line)
+            if repr(self.lines[number - 1]) in complaints:
+                raise self.wrong(number, "can't be read", line)
         read = {}
         for frame in frames:
             read.setdefault((frame.arbitration_id.id, frame.arbitration_id.extended), []).append([signal.name for signal in frame.signals])
-        for number, identifier, signals in self.frames():
+        for number, line, identifier, signals in self.frames():
             if not read.get(identifier):
-                raise self.wrong(number, "canmatrix passes over a BO_ there")
+                raise self.wrong(number, "canmatrix passes over this frame", line)
             names = read[identifier].pop(0)
             if len(names) < len(signals):
-                raise self.wrong(next((at for at, name in signals if name not in names), number), "canmatrix passes over an SG_ there")
+                at, text = next(((at, text) for name, at, text in signals if name not in names), (number, line))
+                raise self.wrong(at, "canmatrix passes over a signal there", text)
 
     def frames(self):
-        """Line, identifier and signals (line and name) of each frame, as the words BO_ and SG_ say."""
+        """Number and text of the line, identifier and signals (name, number and text of the line) of each frame, as the words BO_ and SG_ say."""
         found = []
         for number, line in self.statements:
             if not line.strip().startswith(("BO_ ", "BO_\t", "SG_ ", "SG_\t")):
                 continue
             for word, name in PLACE.findall(TEXT.sub("", line)):
                 if word == "BO_":
-                    found.append((number, identifier_of(name), []))
+                    found.append((number, line, identifier_of(name), []))
                 elif not found:
-                    raise self.wrong(number, "is a signal before the first frame")
+                    raise self.wrong(number, "is a signal before the first frame", line)
                 else:
-                    found[-1][2].append((number, name))
+                    found[-1][3].append((name, number, line))
         return found
 
 
@@ -109,9 +117,11 @@ def identifier_of(text):
 
 
 def encoding_of(data):
-    """UTF-8 where it can be, else Latin-1, as most tools write."""
-    try:
-        data.decode()
-        return "utf-8"
-    except UnicodeDecodeError:
-        return "iso-8859-1"
+    """UTF-8 where it can be, else Windows' Latin-1, as most tools write, else Latin-1, which has all bytes."""
+    for encoding in ("utf-8", "cp1252"):
+        try:
+            data.decode(encoding)
+            return encoding
+        except UnicodeDecodeError:
+            pass
+    return "iso-8859-1"
