@@ -113,6 +113,7 @@ READINGS = [
     ("a comment of two lines", [FRAME, SIGNAL, 'CM_ SG_ 100 Signal "one', 'BO_ 7 two";'], {}, {"comment": "one\nBO_ 7 two"}),
     ("signals in no frame", [FRAME, SIGNAL, FREE, SIGNAL], {}, {}),
     ("lines of others", [FRAME, SIGNAL, 'EV_ Out: none;', 'BA_DEF_ BO_ "Other" INT 0;', 'BA_ "Other" BO_ 999 1;', "SIG_GROUP_ wrong"], {}, {}),
+    ("lists over several lines", ["LAST", "BS_: 500", "125000", 'VAL_TABLE_ Doors 0 "closed"', '1 "open" ;', FRAME, SIGNAL], {}, {}),
     ("a long name", [FRAME.replace("Frame", "F"), SIGNAL.replace("Signal", "S"), 'BA_DEF_ BO_ "SystemMessageLongSymbol" STRING ;',
                      'BA_DEF_ SG_ "SystemSignalLongSymbol" STRING ;', 'BA_ "SystemMessageLongSymbol" BO_ 100 "Frame";',
                      'BA_ "SystemSignalLongSymbol" SG_ 100 S "Signal";'], {"id": 100}, {"ipdu": "Frame"}),
@@ -189,9 +190,10 @@ REFUSALS = [
 WRONG_FILES = [
     ("a.sym", b"{ENUMS}", "a.sym: is no database that can be read: its name has to end in .dbc, .kcd or .arxml"),
     ("a.dbc", b"", "a.dbc: holds no frame"),
-    ("a.dbc", b"Dear reader,\nthis is no DBC.\n", "a.dbc: holds no frame"),
+    ("a.dbc", b"\r\n\r\n", "a.dbc: holds no frame"),
+    ("a.dbc", b"Dear reader,\nthis is no DBC.\n", "a.dbc: line 1: begins with no word of a DBC: Dear reader,"),
     ("a.dbc", b"\x7fELF\x02\x01\x01\x00\x00", "a.dbc: is no DBC: byte 7 is 0, and a DBC is text"),
-    ("a.dbc", b"\xfe\xed\xfa\x81", "a.dbc: holds no frame"),
+    ("a.dbc", b"\xfe\x81\x0b\xfa", "a.dbc: line 1: begins with no word of a DBC: \xfe  \xfa"),
 ]
 # lines of a DBC, from its line 3 on, and what is said after its name
 
@@ -217,6 +219,8 @@ WRONG_LINES = [
     ([FRAME, SIGNAL, START, 'BA_ "GenSigStartValue" SG_ 100 Signal', "5;"],
      'line 6: goes on in the next line, and canmatrix reads line by line: BA_ "GenSigStartValue" SG_ 100 Signal'),
     ([FRAME, SIGNAL, 'CM_ BO_ 100 "open;', OTHER], 'line 5: a quote is never closed: CM_ BO_ 100 "open;'),
+    ([FRAME, SIGNAL, "B_ 101 Other: 8 VAN", SIGNAL.replace("Signal", "Second")], "line 5: begins with no word of a DBC: B_ 101 Other: 8 VAN"),
+    ([FRAME, SIGNAL, *CYCLE, 'B_ "GenMsgCycleTime" BO_ 100 5;'], 'line 7: begins with no word of a DBC: B_ "GenMsgCycleTime" BO_ 100 5;'),
     ([FRAME, SIGNAL, ANY, 'BA_ "Any" BO_ 100 3;'], 'line 6: 3 is none of the 2 values of Any: BA_ "Any" BO_ 100 3;'),
     ([FRAME, SIGNAL, ANY, 'BA_ "Any" BO_ 100 "4";'], 'line 6: "4" is none of the 2 values of Any: BA_ "Any" BO_ 100 "4";'),
     ([FRAME, SIGNAL, START, 'BA_ "GenSigStartValue" SG_ 100 Signal "5";'], 'line 6: "5" is no number: BA_ "GenSigStartValue" SG_ 100 Signal "5";'),

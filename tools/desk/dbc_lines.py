@@ -16,6 +16,11 @@ NUMERIC = re.compile(r"GenMsg\w*Time|GenSig(CycleTime|StartValue)")  # attribute
 NUMBER = re.compile(r"[+-]?(\d+\.?\d*|\.\d+)([eE][+-]?\d+)?")
 OURS = re.compile(r'BA_.*"Gen(Msg|Sig)')  # the attributes that are looked at
 ENDED = ("BA_ ", "BA_DEF_ ", "BA_DEF_DEF_ ", "VAL_ ", "BO_TX_BU_ ", "SIG_VALTYPE_ ", "SG_MUL_VAL_ ")  # statements with a semicolon at their end
+# Words that begin a statement; those with no semicolon at their end, and of these the ones that may go on in the next line.
+WORDS = set("""VERSION NS_ BS_ BU_ BO_ SG_ BO_TX_BU_ CM_ BA_DEF_ BA_DEF_DEF_ BA_ BA_DEF_REL_ BA_DEF_DEF_REL_ BA_REL_ VAL_ VAL_TABLE_ SIG_GROUP_ SIG_VALTYPE_
+SG_MUL_VAL_ EV_ ENVVAR_DATA_ EV_DATA_ NS_DESC_ CAT_DEF_ CAT_ FILTER SGTYPE_ SGTYPE_VAL_ BA_DEF_SGTYPE_ BA_SGTYPE_ SIG_TYPE_REF_ SIGTYPE_VALTYPE_ BU_SG_REL_
+BU_EV_REL_ BU_BO_REL_""".split())
+NOT_ENDED, LISTS = {"VERSION", "NS_", "BS_", "BU_", "BO_", "SG_"}, {"NS_", "BS_", "BU_"}
 
 
 class Lines:
@@ -29,6 +34,7 @@ class Lines:
         self.encoding = encoding_of(data)
         lines = [line.decode(self.encoding) for line in io.BytesIO(data)]
         self.statements = self.outside_texts(lines)
+        self.check_words()
         self.enums = {(found[1], found[2]): re.findall('"[^"]*"', found[3]) for _, line in self.statements if (found := ENUM.match(line.strip()))}
         for number, line in self.statements:
             lines[number - 1] = self.with_index(number, line)
@@ -51,6 +57,17 @@ class Lines:
         if opened is not None:
             raise self.wrong(opened, "a quote is never closed", lines[opened - 1])
         return found
+
+    def check_words(self):
+        """Refuses a line that neither begins a statement nor goes on with one: canmatrix passes over it, and the signals of a frame would be another's."""
+        goes_on = False
+        for number, line in self.statements:
+            statement = TEXT.sub("", line)
+            word = re.match(r"\s*(\w*)", statement)[1]
+            if word in WORDS:
+                goes_on = word in LISTS if word in NOT_ENDED else ";" not in statement
+            elif statement.strip() and not goes_on:
+                raise self.wrong(number, "begins with no word of a DBC", line)
 
     def with_index(self, number, line):
         """A line whose attribute has a word of its enumeration, with the word's index."""
