@@ -81,6 +81,7 @@ def main():
     with tempfile.TemporaryDirectory() as folder:
         library = archive.load(folder)
         told = logs(folder)
+        random.seed(2)  # the same runs, whatever was left out
         bus(library, met)
         for board in van().boards() + example_boards():
             calls += check_lanes(library, board, 2000, met)
