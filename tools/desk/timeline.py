@@ -25,8 +25,8 @@ class Event(NamedTuple):
 
 @dataclass
 class Lane:
-    """One I-PDU. `open` are its open requests (until confirm, no_confirm, deadline, start or end), `delays` its minimum delays (until passed, request,
-    confirm, start or end); of a received one `watched` are the times in which a frame is waited for (until indication, deadline, start or end)."""
+    """One I-PDU. `open` are its open requests (until confirm, no_confirm, deadline, start or end), `delays` its minimum delays (until passed, start or
+    end); of a received one `watched` are the times in which a frame is waited for (until indication, deadline, start or end)."""
 
     number: int
     record: object
@@ -98,7 +98,6 @@ class Follow:
             self.delay.end(step.at, "passed")
         if self.request.tick():
             self.request.end(step.at, "deadline")
-            self.delay.end(step.at, "deadline")
             self.note(step, "deadline")
         if self.timer.tick():
             self.note(step, "deadline")
