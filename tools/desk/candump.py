@@ -3,6 +3,7 @@ import re
 from decimal import Decimal
 from typing import NamedTuple
 
+from .progress import watched
 from .wrong import read_text, wrong
 
 DATA, REMOTE, ERROR, FD, XL = KINDS = "data", "remote", "error", "fd", "xl"
@@ -39,8 +40,8 @@ class Frame(NamedTuple):
 
 def read(path):
     """The frames of a log."""
-    frames, last = [], None
-    for number, text in enumerate(read_text(path).split("\n"), 1):
+    frames, last, lines = [], None, read_text(path).split("\n")
+    for number, text in enumerate(watched(lines, "lines read", len(lines)), 1):
         text = text.strip()
         if not text:
             continue

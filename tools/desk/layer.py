@@ -4,6 +4,7 @@ import subprocess
 import tempfile
 from dataclasses import dataclass
 
+from .progress import watched
 from .run import steps
 from .wrong import wrong
 
@@ -21,9 +22,13 @@ def drive(program, table, script):
             with open(name, "wb") as file:
                 file.write(data)
         try:
-            return subprocess.run([program, *names], stdout=subprocess.PIPE, check=True).stdout.decode()
-        except (OSError, subprocess.CalledProcessError) as error:
-            raise wrong(program, "", f"fails: {error}") from None
+            with subprocess.Popen([program, *names], stdout=subprocess.PIPE, encoding="utf-8") as process:
+                printed = "".join(watched(process.stdout, "calls made", script.count("\n")))
+        except OSError as error:
+            raise wrong(program, "", f"fails: {error.strerror}") from None
+        if process.returncode != 0:
+            raise wrong(program, "", f"fails with {process.returncode}")
+        return printed
 
 
 @dataclass

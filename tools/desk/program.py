@@ -1,12 +1,11 @@
-"""What the desk's programs have in common: plain errors, exit status, progress on a terminal."""
+"""What the desk's programs have in common: plain errors, exit status."""
 import signal
 import sys
-import time
 
+from .progress import say
 from .wrong import Wrong, wrong, write
 
 FAILED, USAGE = 1, 2
-SHOWN_EVERY = 0.2  # seconds
 
 
 def run(name, main):
@@ -15,6 +14,7 @@ def run(name, main):
     try:
         sys.exit(main(sys.argv[1:]))
     except Wrong as error:
+        say("")
         for line in error.lines:
             print(f"{name}: {line}", file=sys.stderr)
         sys.exit(FAILED)
@@ -24,6 +24,7 @@ def run(name, main):
 
 def put(path, text):
     """Text into a file, or to standard output where there is none."""
+    say("")
     if path is None:
         sys.stdout.write(text)
     else:
@@ -40,18 +41,3 @@ def board_of(network, node):
     if node not in boards:
         raise wrong(network.file, "nodes", f"there is no node \"{node}\" with a table, only {', '.join(boards)}")
     return boards[node]
-
-
-def watched(items, words, total=None):
-    """The items, while a line on the terminal says how many are done. Nothing is shown where standard error is no terminal."""
-    if not sys.stderr.isatty():
-        yield from items
-        return
-    total = len(items) if total is None else total
-    shown = time.monotonic()
-    for done, item in enumerate(items):
-        if time.monotonic() - shown >= SHOWN_EVERY:
-            shown = time.monotonic()
-            print(f"\r{words}: {done} of {total}", end="", file=sys.stderr, flush=True)
-        yield item
-    print("\r\x1b[K", end="", file=sys.stderr, flush=True)

@@ -69,6 +69,12 @@ def steps(script, script_file, output, output_file):
     return timed(made)
 
 
+def unread(script, made):
+    """The number of the line that ended the run because it can't be read, or None."""
+    lines = script.count("\n") + bool(script.rpartition("\n")[2])
+    return len(made) + 1 if len(made) < lines else None
+
+
 def timed(made):
     """Steps with their times."""
     ticks, between = 0, []
