@@ -133,6 +133,15 @@ def test_other_formats(folder):
     return True
 
 
+def test_container():
+    """A frame of ARXML that holds PDUs, as canmatrix has it."""
+    import canmatrix
+    frame = canmatrix.Frame("Frame", size=8)
+    frame.add_pdu(canmatrix.Pdu("First"))
+    same("a container", database.ipdu(canmatrix.CanMatrix(), frame).get("refused"),
+         {"": "holds several PDUs, and a frame holds one I-PDU here; leave_out leaves it out"})
+
+
 # a network as a DBC, and back
 
 def short(name):
@@ -180,12 +189,17 @@ def test_back(folder):
     shared = database.read(folder.file("odd.dbc", encoded(text)))["message"]["Shared"]
     same("odd texts, back", (shared["unit"], shared["values"], shared["dbc_start_bit"]), ("a/b'c", {"0": "say 'no'", "-1": "b/"}, 23))
     random.seed(310)
+    met = set()
     for number in range(NETWORKS):
         toml = random_toml()
         try:
-            count += check_back(folder, f"network {number}", load(folder.file("random.toml", toml)))
+            network = load(folder.file("random.toml", toml))
+            count += check_back(folder, f"network {number}", network)
         except Wrong as error:
             sys.exit(f"desk_database.py: network {number}: {error}\n{toml}")
+        met |= {(ipdu.mode, ipdu.extended, network.tick < 1) for ipdu in network.ipdus}
+        met |= {(message.big, message.signed, message.transfer, message.node is None) for message in network.messages}
+    same("kinds of I-PDUs and messages in random networks", len(met), 3 * 2 * 2 + 2 * 2 * 2 * 2)
     for what, toml, expected in cases.NOT_WRITTEN:
         same(what, folder.refusal(lambda: dbc(load(folder.file("a.toml", toml)))), [expected])
     return count
@@ -203,6 +217,7 @@ def main():
         test_readings(folder)
         test_refusals(folder)
         test_wrong_files(folder)
+        test_container()
         others = test_other_formats(folder)
         count = test_back(folder)
     wrong = len(cases.WRONG_FILES + cases.WRONG_LINES)

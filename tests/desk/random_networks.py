@@ -10,8 +10,8 @@ UNITS = ["", "%", "°C", "lx", "g/m³", "km/h"]
 FILTERS = ["", 'filter = "NewIsDifferent"', 'filter = { algorithm = "OneEveryN", period = 3, offset = 1 }', 'filter = "Never"']
 
 
-def random_message(name, ipdu, length, receivers, for_all):
-    """The lines of a message, which has all the receivers or perhaps the first alone."""
+def random_message(name, ipdu, length, sender, receivers, for_all):
+    """The lines of a message, which has all the receivers or perhaps the first alone or none: it is the sender's own."""
     size = random.randint(1, min(32, 8 * length))
     big, signed = random.random() < 0.5, random.random() < 0.5
     start = random.choice([start for start in range(8 * length) if bits.fits(start, size, big, length)])
@@ -21,14 +21,16 @@ def random_message(name, ipdu, length, receivers, for_all):
     lines.append(f"initial_value_raw = {random.choice([0, random.randint(bits.least(size, signed), bits.greatest(size, signed))])}")
     lines.append(random.choice(["", 'transfer_property = "pending"', 'transfer_property = "triggered"']))
     lines.append(random.choice(["", 'values = { 0 = "off", 1 = "on" }', 'comment = "It says \\"on\\"; or so"']))
-    if receivers:
+    if not for_all and random.random() < 0.15:
+        lines.append(f'node = "{sender}"')
+    elif receivers:
         lines.append(random.choice(["", f"receiver.{receivers[0]} = {{ queue_size = 3 }}"]))
         lines.append("" if for_all else random.choice(["", f'receivers = ["{receivers[0]}"]']))
     return lines
 
 
 def random_ipdu(name, identifier, tick):
-    """Its lines, length and receivers."""
+    """Its lines, length, sender and receivers."""
     sender = random.choice(NODES)
     receivers = random.sample([node for node in NODES if node != sender], random.randint(0, 2))
     length, extended = random.randint(1, 8), random.random() < 0.3
@@ -40,7 +42,7 @@ def random_ipdu(name, identifier, tick):
         lines += [f"time_period_ms = {random.randint(1, 100) * tick}", random.choice(["", f"time_offset_ms = {random.randint(1, 100) * tick}"])]
     if mode != "periodic":
         lines.append(f"minimum_delay_time_ms = {random.randint(0, 20) * tick}")
-    return lines, length, receivers
+    return lines, length, sender, receivers
 
 
 def random_toml():
@@ -48,9 +50,9 @@ def random_toml():
     tick = random.choice([1, 5, 10, 0.5])
     lines = [f"tick_ms = {tick}", f"nodes = {NODES}"]
     for number in range(random.randint(1, 6)):
-        ipdu, length, receivers = random_ipdu(f"Frame{number}", 0x100 + number, tick)
+        ipdu, length, sender, receivers = random_ipdu(f"Frame{number}", 0x100 + number, tick)
         lines += ipdu
         for count in range(random.randint(1, 6)):
             name = f"Frame{number}.Shared" if count == 0 else f"Signal{number}_{count}"
-            lines += random_message(name, f"Frame{number}", length, receivers, count == 0)
+            lines += random_message(name, f"Frame{number}", length, sender, receivers, count == 0)
     return "\n".join(lines) + "\n"

@@ -162,6 +162,8 @@ def ipdu(matrix, frame):
         refused["sender"] = f"{' and '.join(senders)} send it, and an I-PDU has one sender; sender = .. in the TOML says which"
     if is_extended_multiplex(frame):
         refused[""] = "has extended multiplexing, and plain (one multiplexor, with signals m0, m1 ..) is all that is read; leave_out leaves it out"
+    if frame.is_pdu_container:
+        refused[""] = "holds several PDUs, and a frame holds one I-PDU here; leave_out leaves it out"
     mode, times = sending(matrix, frame)
     if mode is None:
         word = send_type(matrix, frame, "GenMsgSendType")
