@@ -187,7 +187,9 @@ def test_back(folder):
     text = dbc(load(folder.file("odd.toml", cases.ODD_TEXTS)))
     same("odd texts", [line for line in text.splitlines() if line.startswith(cases.ODD_STARTS)], cases.ODD_LINES)
     shared = database.read(folder.file("odd.dbc", encoded(text)))["message"]["Shared"]
-    same("odd texts, back", (shared["unit"], shared["values"], shared["dbc_start_bit"]), ("a/b'c", {"0": "say 'no'", "-1": "b/"}, 23))
+    same("odd texts, back", (shared["unit"], shared["values"], shared["dbc_start_bit"]), ("a/b'c Ω", {"0": "say 'no'", "-1": "b/"}, 23))
+    van = encoded(dbc(load(os.path.join(TOP, "examples", "van.toml"))))
+    same("the unit for canmatrix by itself", database.library("").loads_flat(van, "dbc").frame_by_name("Cargo").signal_by_name("Freezer").unit, "°C")
     random.seed(310)
     met = set()
     for number in range(NETWORKS):
@@ -221,8 +223,8 @@ def main():
         others = test_other_formats(folder)
         count = test_back(folder)
     wrong = len(cases.WRONG_FILES + cases.WRONG_LINES)
-    print(f"desk_database.py: {len(cases.READINGS)} readings, {len(cases.REFUSALS)} refusals, {wrong} wrong files; {count} messages of {NETWORKS + 2} networks are "
-          "the same after a DBC" + ("" if others else "; KCD and ARXML left out: python3-lxml is not on this machine"))
+    print(f"desk_database.py: {len(cases.READINGS)} readings, {len(cases.REFUSALS)} refusals, {wrong} wrong files; {count} messages of {NETWORKS + 2} networks "
+          "are the same after a DBC" + ("" if others else "; KCD and ARXML left out: python3-lxml is not on this machine"))
 
 
 main()

@@ -283,7 +283,7 @@ byte_order = "big"
 signed = true
 factor = -0.5
 initial_value = 1.5
-unit = 'a\\b"c'
+unit = 'a\\b"c Ω'
 values = { 0 = 'say "no"', -1 = "b\\\\" }
 [message.Own]
 node = "V"
@@ -304,7 +304,7 @@ size_in_bytes = 2
 ODD_LINES = [
     "BU_: V Two Road",
     "BO_ 7 Frame: 4 V",
-    ' SG_ Shared : 23|12@0- (-0.5,0) [-1023.5|1024.0] "a/b\'c"  Two',
+    ' SG_ Shared : 23|12@0- (-0.5,0) [-1023.5|1024.0] "a/b\'c Ω"  Two',
     ' SG_ Own : 0|1@1+ (1,0) [0|1] ""  Vector__XXX',
     "BO_ 8 Lone: 2 Vector__XXX",
     'CM_ BO_ 7 "two lines \'quoted\' /";',

@@ -38,11 +38,6 @@ def enumeration(words):
     return "ENUM " + ",".join(quoted(word) for word in words)
 
 
-def is_on_bus(message):
-    """Whether its I-PDU's sender puts it into a frame."""
-    return message.ipdu is not None and (message.node is None or message.kind == SEND)
-
-
 class Writer:
     def __init__(self, network):
         self.network = network
@@ -63,7 +58,8 @@ class Writer:
         return short
 
     def carried(self, ipdu):
-        return [message for message in self.network.messages if message.ipdu is ipdu and is_on_bus(message)]
+        """What its sender puts into it, not what a receiver alone sees in it."""
+        return [message for message in self.network.messages if message.ipdu is ipdu and (message.node is None or message.kind == SEND)]
 
     def text(self):
         parts = [self.head(), self.bus(), self.comments(), self.attributes(), self.values()]
