@@ -188,8 +188,9 @@ def test_back(folder):
     same("odd texts", [line for line in text.splitlines() if line.startswith(cases.ODD_STARTS)], cases.ODD_LINES)
     shared = database.read(folder.file("odd.dbc", encoded(text)))["message"]["Shared"]
     same("odd texts, back", (shared["unit"], shared["values"], shared["dbc_start_bit"]), ("a/b'c Ω", {"0": "say 'no'", "-1": "b/"}, 23))
-    van = encoded(dbc(load(os.path.join(TOP, "examples", "van.toml"))))
-    same("the unit for canmatrix by itself", database.library("").loads_flat(van, "dbc").frame_by_name("Cargo").signal_by_name("Freezer").unit, "°C")
+    van = os.path.join(folder.path, "van.dbc")
+    subprocess.run([os.path.join(TOP, "tools", "table"), "dbc", os.path.join(TOP, "examples", "van.toml"), "--out", van], check=True)
+    same("the unit for canmatrix by itself", database.library("").loadp_flat(van).frame_by_name("Cargo").signal_by_name("Freezer").unit, "°C")
     random.seed(310)
     met = set()
     for number in range(NETWORKS):
