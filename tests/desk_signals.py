@@ -20,7 +20,7 @@ from desk.records import MOST_BITS, MOST_IPDUS, MOST_LENGTH, MOST_OBJECTS
 from desk.source import load
 from desk.wrong import Wrong, write
 
-FILES = 600
+FILES = 570
 SIGNALS, SCAPY_SIGNALS = 40000, 10000  # at least
 SCALINGS = [(Decimal(1), Decimal(0)), (Decimal("0.1"), Decimal(0)), (Decimal("0.5"), Decimal(-40)), (Decimal(-2), Decimal("7.5"))]
 TOML = 'database = "random.dbc"\ntick_ms = 1\nnodes = ["VAN", "CASE"]\ndefaults.deadline_ms = 10\n'
