@@ -22,13 +22,15 @@ def run(name, main):
         sys.exit(128 + signal.SIGINT)
 
 
-def put(path, text):
-    """Text into a file, or to standard output where there is none."""
+def put(path, data):
+    """Text or bytes into a file, or to standard output where there is none."""
     say("")
-    if path is None:
-        sys.stdout.write(text)
+    if path is not None:
+        write(path, data)
+    elif isinstance(data, bytes):
+        sys.stdout.buffer.write(data)
     else:
-        write(path, text)
+        sys.stdout.write(data)
 
 
 def board_of(network, node):
