@@ -1,9 +1,10 @@
 #!/usr/bin/env python3
 """The picture and the report of a journey. docs/van.svg is byte for byte what is made from examples/van.toml, examples/van.script and a run of drive, which
-prints examples/van.stdout. For the van, 5,000 ticks, the largest table, scripts that do little or nothing and awkward titles: the SVG is well-formed, refers to
-nothing outside, has every request, confirm, indication and missed deadline that the test counts from the calls and answers itself, and its texts lie inside
-and not on each other. The report's tags are closed, it refers to nothing outside, all frames are in it, and each value in units is what the test's own walk
-over the bits gives. Where chromium and poppler are on the machine, the report is opened and printed with no network. Needs target/bin/drive."""
+prints examples/van.stdout. For the van, 5,000 ticks, the largest table, scripts that do little or nothing and awkward titles: the SVG is well-formed, refers
+to nothing outside, has every request, confirm, indication, missed deadline, mark and dot that the test counts from the calls and answers itself, and its
+texts lie inside and not on each other. The report's tags are closed, it refers to nothing outside, all frames are in it, and each value in units is what
+the test's own walk over the bits gives. Where chromium and poppler are on the machine, the report is opened and printed with no network. Needs
+target/bin/drive."""
 import os
 import re
 import shutil
@@ -25,7 +26,7 @@ from journeys import Expected, in_units, largest, raw_in, samples_of, time_of, w
 
 DRIVE = os.path.join(TOP, "target", "bin", "drive")
 SPACE = "{http://www.w3.org/2000/svg}"
-KINDS = ["request", "confirm", "no_confirm", "indication", "error", "deadline"]
+KINDS = ["request", "confirm", "no_confirm", "indication", "error", "deadline", "given", "taken", "lost", "marked"]
 VOID = {"meta", "br"}
 LEAST_TEXT = 9
 MOST_WIDTH = 2000
@@ -308,7 +309,7 @@ def main():
             if journey.name == "van":
                 check_van(journey)
                 said = browsed(journey, folder)
-    never = [kind for kind in [*KINDS, "given", "taken", "lost", "marked", "state", "value", "started", "several", "dense"] if not found[kind]]
+    never = [kind for kind in [*KINDS, "state", "value", "started", "several", "dense"] if not found[kind]]
     if never or not values:
         fail("all journeys", f"never met: {never}, values {values}")
     marks = sum(found[kind] for kind in KINDS)

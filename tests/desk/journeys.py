@@ -5,35 +5,66 @@ from decimal import Decimal
 
 
 class Expected:
-    """Counts of a run, from the calls, the answers and the times in the table alone."""
+    """Counts of a run, from the calls, the answers, the marks and the records of the table alone; and its frames as (line, I-PDU, bytes)."""
 
     def __init__(self, journey):
-        self.records = journey.board.ipdu_records
+        self.records, self.objects = journey.board.ipdu_records, journey.board.objects
         self.counts = Counter()
         self.frames = []
-        self.left = {}
+        self.left, self.waiting = {}, {}
         for step in journey.made:
             if step.status == 0:
                 self.step(step)
+            if step.call == "receive" and step.value is not None and self.objects[step.numbers[0]].record.depth:
+                self.counts["lost" if step.status == 3 else "taken"] += 1
+        self.drop_waiting()
+        self.count_marks(journey.states)
 
     def step(self, step):
         if step.call == "start":
+            self.drop_waiting()
             self.left = {k: record.first_deadline or record.deadline for k, record in enumerate(self.records) if record.direction == 2}
+        elif step.call == "send":
+            self.waiting.setdefault(step.numbers[0], []).append(step.numbers[1])
         elif step.call == "tick":
             self.tick()
         elif step.call == "confirm":
             self.counts["confirm" if step.numbers[1] else "no_confirm"] += 1
             self.left.pop(step.numbers[0])
-        elif step.call == "indication" and step.numbers[1]:
-            self.left[step.numbers[0]] = self.records[step.numbers[0]].deadline
-            self.counts["indication"] += 1
-            self.frames.append((step.line, step.numbers[0], step.frame))
         elif step.call == "indication":
-            self.counts["error"] += 1
+            self.indication(step)
         for ipdu, frame in step.requests:
             self.counts["request"] += 1
             self.frames.append((step.line, ipdu, frame))
             self.left.setdefault(ipdu, self.records[ipdu].deadline)
+            self.carry(ipdu, frame)
+
+    def indication(self, step):
+        ipdu, good = step.numbers
+        self.counts["indication" if good else "error"] += 1
+        if good:
+            self.left[ipdu] = self.records[ipdu].deadline
+            self.frames.append((step.line, ipdu, step.frame))
+
+    def carry(self, ipdu, frame):
+        """Values that were sent since the last frame, and are not in this one."""
+        for entry in self.objects:
+            record = entry.record
+            if record.ipdu == ipdu and entry.number in self.waiting:
+                here = walked(frame, record.start, record.bits, record.order % 2 == 1, False)
+                self.counts["given"] += sum(value % 2**record.bits != here for value in self.waiting.pop(entry.number))
+
+    def drop_waiting(self):
+        self.counts["given"] += sum(len(values) for values in self.waiting.values())
+        self.waiting = {}
+
+    def count_marks(self, states):
+        """How often a mark was set anew."""
+        before = [0] * len(self.objects)
+        for state in states:
+            now = [marks or 0 for marks in state.marks]
+            self.counts["marked"] += sum((new & ~old).bit_count() for new, old in zip(now, before))
+            before = now
 
     def tick(self):
         for ipdu, ticks in list(self.left.items()):

@@ -78,7 +78,7 @@ def sheet_table(board, made):
 
 # the table
 
-def ipdu_words(board, number, record):
+def ipdu_words(board, record):
     """What an I-PDU's record says."""
     def time(ticks):
         return f"{board.network.milliseconds(ticks)} ms"
@@ -92,7 +92,7 @@ def ipdu_words(board, number, record):
 
 
 def ipdu_table(board):
-    rows = [[number, ipdu.name, identifier(ipdu), counted(ipdu.length, "byte"), ipdu_words(board, number, record), ipdu.comment]
+    rows = [[number, ipdu.name, identifier(ipdu), counted(ipdu.length, "byte"), ipdu_words(board, record), ipdu.comment]
             for number, (ipdu, record) in enumerate(zip(board.ipdus, board.ipdu_records))]
     return table("ipdus", ["number", "I-PDU", "identifier", "length", "behaviour", "comment"], rows, "The node has no I-PDUs.")
 

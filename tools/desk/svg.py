@@ -101,9 +101,9 @@ class Page:
         body = HEAD + AXIS + LAYER
         bottom = body + sum(height for _, height in rows)
         self.head()
+        self.layer(HEAD + AXIS)
         self.grid(HEAD + AXIS, bottom)
         self.axis(self.canvas, HEAD)
-        self.layer(HEAD + AXIS)
         top = body
         for draw, height in rows:
             self.canvas.taken = []

@@ -12,7 +12,6 @@ STYLE = f"""
 .journey text{{font-family:Arial,Helvetica,'Liberation Sans','DejaVu Sans',sans-serif;fill:{INK}}}
 .journey .quiet{{fill:{MUTED}}}
 .journey .strong{{font-weight:bold}}
-.journey .warned{{fill:{WARNING}}}
 .journey .grid{{stroke:#e4e8eb;fill:none}}
 .journey .rule{{stroke:#aeb7be;fill:none}}
 .journey .started{{stroke:{INK};stroke-width:1.2;stroke-dasharray:5 3;fill:none}}

@@ -1,4 +1,6 @@
 """The lanes of a picture: one for each I-PDU and one for each message. A lane knows its height, and draws itself at a place of a canvas."""
+from itertools import product
+
 from .network import MODES
 from .readings import Run
 from .records import NONE, SEND
@@ -6,6 +8,7 @@ from .report_words import counted, identifier
 from .svg_draw import NORMAL, SMALL, Box, text_width
 
 NAMES_AT, INDENT, PLOT_AT = 16, 12, 262  # where names and the time's beginning are, from the left
+ABOVE, BELOW = 6, 6  # left free in a message's lane
 SCALE_ROOM = 76  # for the least and the greatest value, left of the plot
 NEAR = 5.0  # marks of a kind that are nearer than this are drawn as one
 LABEL_SHIFTS = (0, 12, 24, 36)  # how far a value is written behind its change where something is in the way
@@ -21,7 +24,8 @@ EVENTS = {"request": "request", "confirm": "good confirm", "no_confirm": "confir
 # Where a kind of event is drawn in its lane: a mark's middle, and from where to where strokes go.
 LEVELS = {"request": (12, 5, 17), "confirm": (25.5, 31, 36), "no_confirm": (25.5, 20, 36), "indication": (13, 6, 18), "error": (13, 6, 22),
           "deadline": (26, 21, 35)}
-TIP_FRAMES = 8
+TIP_FRAMES = 8  # frames whose bytes a tip has, at most
+TONES = ["#fff", "#b9d7ea", "#e9edf0", "#8fbfdd", "#d5e6d9"]  # of named states, one after the other
 GIVEN = {"given": "given to a send, and carried by no frame", "taken": "taken by a receive", "lost": "taken by a receive; a value before it was lost"}
 
 
@@ -127,7 +131,7 @@ class MessageLane:
         raws = reading.raws()
         self.is_band = bool(raws) and bool(reading.lines) and all(raw in self.scaling.names for raw in raws)
         self.body = 17 if self.is_band or not raws else 34
-        self.height = 6 + self.body + 4 + 2 * self.strip + 6
+        self.height = ABOVE + self.body + 4 + 2 * self.strip + BELOW
         self.least, self.greatest = (min(raws, key=self.drawn), max(raws, key=self.drawn)) if raws else (0, 0)
         good, bad = ("sent", "send error") if reading.is_sent else ("arrived", "receive error")
         self.strips = [(good, "good", marks[good]), (bad, "bad", marks[bad])]
@@ -139,9 +143,10 @@ class MessageLane:
     def y(self, top, raw):
         """The place of a value; one that is all there is lies in the middle."""
         part = (raw - self.least) / (self.greatest - self.least) if self.greatest != self.least else 0.5
-        return top + 6 + self.body * (1 - part)
+        return top + ABOVE + self.body * (1 - part)
 
     def kind(self):
+        """Where the values come from or go to, in words."""
         record = self.entry.record
         queue = f", queue of {record.depth}" if record.depth else ""
         if record.kind == SEND:
@@ -153,7 +158,7 @@ class MessageLane:
         canvas.name(NAMES_AT + INDENT, top + 15, self.entry.name, NORMAL, room)
         canvas.name(NAMES_AT + INDENT, top + 28, self.kind(), SMALL, room, "quiet")
         for place, (name, how, spans) in enumerate(self.strips):
-            self.marked(canvas, spans, top + 6 + self.body + 4 + place * (self.strip + 1), how, name)
+            self.marked(canvas, spans, top + ABOVE + self.body + 4 + place * (self.strip + 1), how, name)
         if not self.reading.raws():
             canvas.text(PLOT_AT + 6, top + 19, "no value", SMALL, "quiet")
             return
@@ -166,6 +171,7 @@ class MessageLane:
                 self.line(canvas, top, run)
 
     def marked(self, canvas, spans, y, how, name):
+        """The strip of one mark."""
         x = self.times.x
         for group in near(spans, lambda span: x(span.begin), lambda group: x(group[-1].end), THIN):
             first, last = group[0], group[-1]
@@ -179,7 +185,7 @@ class MessageLane:
             value = self.scaling.physical(raw)
             ways = (self.scaling.text(raw), self.scaling.number(raw), f"{value:.6g}")
             words = next((each for each in ways if text_width(each, SMALL) <= SCALE_ROOM), f"{value:.3g}")
-            canvas.text(PLOT_AT - 8, top + 6 + down, words, SMALL, "quiet", "end")
+            canvas.text(PLOT_AT - 8, top + ABOVE + down, words, SMALL, "quiet", "end")
 
     # lines
 
@@ -220,8 +226,9 @@ class MessageLane:
                 continue
             y, room = self.y(top, value.raw), right - left - text_width(words, SMALL)
             lines = [line for line in ([y - 4, y + 12] if y - top > 16 else [y + 12, y - 4]) if top + 8 <= line <= top + self.body + 8]
-            shifts = [shift for shift in LABEL_SHIFTS if shift <= room]
-            any(canvas.text_where_free(left + shift, line, words, SMALL) for shift in shifts for line in lines)
+            for shift, line in product([shift for shift in LABEL_SHIFTS if shift <= room], lines):
+                if canvas.text_where_free(left + shift, line, words, SMALL):
+                    break
 
     # dots
 
@@ -231,8 +238,9 @@ class MessageLane:
             are_many = self.times.are_many(values)
             for group in self.times.near(values) if are_many else near(values, self.place_of, lambda group: self.place_of(group[0]), THIN):
                 self.dot(canvas, top, how, group, are_many)
-        for value in [value for value in self.reading.dots if value.how != "given"] if not self.times.are_many(self.reading.dots) else []:
-            self.dot_label(canvas, top, value)
+        if not self.times.are_many(self.reading.dots):
+            for value in self.reading.dots:
+                self.dot_label(canvas, top, value)
 
     def place_of(self, value):
         return self.times.x(value.at)
@@ -253,6 +261,9 @@ class MessageLane:
         canvas.mark(how, middle, (low + high) / 2, tip, len(group))
 
     def dot_label(self, canvas, top, value):
+        """The value beside a dot that was taken, where there is room."""
+        if value.how == "given":
+            return
         words, y = self.reading.text(value), self.y(top, value.raw)
         left = self.times.x(value.at) + 9
         if left + text_width(words, SMALL) <= self.times.x(self.times.clock.ticks):
@@ -261,33 +272,33 @@ class MessageLane:
     # bands of named states
 
     def bands(self, canvas, top):
-        for value in self.reading.dots if not self.times.are_many(self.reading.dots) else []:
-            canvas.taken.append(Box(self.times.x(value.at) - 4, top, self.times.x(value.at) + 4, top + 6 + self.body))
+        are_many = self.times.are_many(self.reading.dots)
+        if not are_many:
+            canvas.taken += [Box(self.place_of(value) - 4, top, self.place_of(value) + 4, top + ABOVE + self.body) for value in self.reading.dots]
         shades = {raw: place for place, raw in enumerate(sorted(self.scaling.names))}
         for run in self.runs():
             self.band(canvas, top, run, shades)
         for group in self.times.near(self.reading.dots):
             names = ", ".join(dict.fromkeys(self.reading.text(value) for value in group))
             tip = f"{self.entry.name}: {names}, {GIVEN['given']}, {self.times.words(group[0].at, group[-1].at)}"
-            if self.times.are_many(self.reading.dots):
-                canvas.stroke("given", self.times.middle(group), top + 2, top + 6, tip, len(group))
+            if are_many:
+                canvas.stroke("given", self.times.middle(group), top + 2, top + ABOVE, tip, len(group))
             else:
-                canvas.mark("given", self.times.middle(group), top + 6 + self.body / 2, tip, len(group))
+                canvas.mark("given", self.times.middle(group), top + ABOVE + self.body / 2, tip, len(group))
 
     def band(self, canvas, top, run, shades):
         """A piece for each state, with its name where there is room; changes within one pixel are one piece of their own pattern."""
         changes, x = self.changes(run), self.times.x
         groups = near(changes, lambda value: x(value.at), lambda group: x(group[0].at), THIN)
-        tones = ["#fff", "#b9d7ea", "#e9edf0", "#8fbfdd", "#d5e6d9"]
         for group, following in zip(groups, [*groups[1:], None]):
             end = following[0].at if following else run.end
             value, left, right = group[-1], x(group[0].at), x(end)
             name = self.reading.text(value)
             when = self.times.words(group[0].at, end)
             if len(group) > 1:
-                canvas.bar("state", "many", left, top + 6, left + THIN, self.body, f"{self.entry.name}: {len(group)} changes, {when}", len(group))
+                canvas.bar("state", "many", left, top + ABOVE, left + THIN, self.body, f"{self.entry.name}: {len(group)} changes, {when}", len(group))
                 left += THIN
-            canvas.add("rect", {"class": "state", "x": left, "y": top + 6, "width": max(0.5, right - left), "height": self.body,
-                                "fill": tones[shades[value.raw] % len(tones)]}, f"{self.entry.name}: {name}, {when}")
+            canvas.add("rect", {"class": "state", "x": left, "y": top + ABOVE, "width": max(0.5, right - left), "height": self.body,
+                                "fill": TONES[shades[value.raw] % len(TONES)]}, f"{self.entry.name}: {name}, {when}")
             if text_width(name, SMALL) + 6 <= right - left:
-                canvas.text_where_free(left + 4, top + 6 + self.body / 2 + 4, name, SMALL)
+                canvas.text_where_free(left + 4, top + ABOVE + self.body / 2 + 4, name, SMALL)
