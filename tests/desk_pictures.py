@@ -179,6 +179,8 @@ def check_html(journey, expected, data):
     if twice:
         journey.fail(f"the report has {twice} as an id twice")
     check_references(journey, "the report", journey.html, None)
+    if ("The layer was never started" in journey.html) == any(step.call == "start" for step in journey.made):
+        journey.fail("the report is wrong on whether there was a start")
     cut = re.findall("ends at line ([0-9]+), which", journey.html)
     if cut != (["3"] if journey.title == "Cut" else []):
         journey.fail(f"the report says of lines that can't be read: {cut}")

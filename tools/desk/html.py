@@ -2,9 +2,8 @@
 from collections import Counter
 
 from . import html_sections as parts
-from .report_words import counted, escaped, lost, refusal, spaced, titled
+from .report_words import counted, escaped, listed, lost, refusal, spaced, titled
 from .svg import Scene, pictures
-from .timeline import lanes
 
 STYLE = """
 :root{color:#1c2730;background:#fff;font:15px/1.45 Arial,Helvetica,'Liberation Sans','DejaVu Sans',sans-serif}
@@ -58,12 +57,13 @@ details::details-content{content-visibility:visible;display:block}
 }
 """
 PROVED = ("The values, marks and requests of this page are the answers of the proved interaction layer over this node's table and this journey's calls. "
-          "The picture and the page are made by a program that is tested, not proved.")
+          "Open requests, delays and missed deadlines are worked out from these by the layer's rules. The picture and the page are made by a program that is "
+          "tested, not proved.")
 
 
-def facts(board, made, clock, journey_lanes, unread):
+def facts(board, made, clock, lanes, unread):
     """(name, words, whether it is bad) for the head."""
-    count = Counter(event.what for lane in journey_lanes for event in lane.events)
+    count = Counter(event.what for lane in lanes for event in lane.events)
     refused = Counter(step.status for step in made if not step.is_done)
     missed, overflows = count["deadline"], len(lost(made))
     rows = [
@@ -95,7 +95,7 @@ def sentence(reading):
     raws = dict.fromkeys(value.raw for value in reading.samples)
     least, greatest = reading.extremes()
     if all(raw in scaling.names for raw in raws):
-        span = " and ".join(", ".join(scaling.names[raw] for raw in raws).rsplit(", ", 1))
+        span = listed([scaling.names[raw] for raw in raws])
     elif least.raw == greatest.raw:
         span = f"{reading.text(least)} throughout"
     else:
@@ -103,9 +103,11 @@ def sentence(reading):
     return f"{name}: {span}, last {reading.text(reading.samples[-1])}, {parts.tally(reading)}"
 
 
-def summary(board, scene_readings, journey_lanes, made):
-    missed = Counter(lane.number for lane in journey_lanes for event in lane.events if event.what == "deadline")
-    lines = [sentence(reading) for reading in scene_readings]
+def summary(board, scene, made):
+    """The journey in plain words, a line for each reading and each trouble."""
+    missed = Counter(lane.number for lane in scene.lanes for event in lane.events if event.what == "deadline")
+    lines = [] if scene.starts else ["The layer was never started"]
+    lines += [sentence(reading) for reading in scene.readings]
     lines += [f"I-PDU {board.ipdu_name(number)}: {counted(count, 'deadline')} missed" for number, count in missed.items()]
     lines += [] if missed else ["No deadline was missed"]
     overflows = Counter(step.numbers[0] for step in lost(made))
@@ -114,6 +116,7 @@ def summary(board, scene_readings, journey_lanes, made):
 
 
 def picture_section(scene, title):
+    """On pages of its own in print."""
     figures = "".join(f"<figure class=\"picture\">\n{drawing}</figure>\n" for drawing in pictures(scene, title))
     return f"<section class=\"pictures\">\n<h2>Picture</h2>\n{figures}</section>\n"
 
@@ -121,20 +124,20 @@ def picture_section(scene, title):
 def html(board, made, states, title, unread=None):
     """The report. `unread` is the number of the script's line that can't be read, where the run ended at one."""
     title, scene = titled(title), Scene(board, made, states)
-    clock, journey_lanes = scene.clock, lanes(board, made, float(scene.clock.ticks))
+    clock, lanes = scene.clock, scene.lanes
     refused = sum(not step.is_done for step in made)
     sections = [
-        head(title, facts(board, made, clock, journey_lanes, unread)),
-        parts.section("Summary", summary(board, scene.readings, journey_lanes, made)),
+        head(title, facts(board, made, clock, lanes, unread)),
+        parts.section("Summary", summary(board, scene, made)),
         parts.section("Readings", "<p>A frame carries the latest value of each of its messages, at first the initial one. Times are those of the tick "
                       "before.</p>\n" + parts.reading_table(scene.readings, clock)),
         parts.section("Sheet", parts.sheet_table(board, made)),
         picture_section(scene, title),
-        parts.section("Missed deadlines and errors", parts.fault_table(board, journey_lanes, clock)),
+        parts.section("Missed deadlines and errors", parts.fault_table(board, lanes, clock)),
         parts.folded("Refused calls", refused, parts.refused_table(made, clock)),
         parts.section("Table", "<h3>I-PDUs</h3>\n" + parts.ipdu_table(board) + "<h3>Messages</h3>\n" + parts.message_table(board)
-                      + "<h3>Bits</h3>\n" + parts.bits_pictures(board)),
-        parts.folded("Frames", len(parts.frames(journey_lanes)), parts.frame_table(board, journey_lanes, clock)),
+                      + parts.bits_pictures(board)),
+        parts.folded("Frames", len(parts.frames(lanes)), parts.frame_table(board, lanes, clock)),
     ]
     return (f"<!DOCTYPE html>\n<html lang=\"en\">\n<head>\n<meta charset=\"utf-8\">\n<meta name=\"viewport\" content=\"width=device-width\">\n"
             f"<title>{escaped(title)}</title>\n<style>{STYLE}</style>\n</head>\n<body>\n{''.join(sections)}<p class=\"note\">{PROVED}</p>\n</body>\n</html>\n")

@@ -133,7 +133,7 @@ def bits_pictures(board):
         lines = bits.picture(ipdu.length, [(entry.name, entry.record.start, entry.record.bits, entry.record.big) for entry in board.carried(number)])
         text = escape("\n".join(lines))
         pictures.append(f"<figure class=\"bits\"><figcaption>{escaped(ipdu.name)}</figcaption><pre>{text}</pre></figure>\n")
-    return f"<div class=\"all-bits\">\n{''.join(pictures)}</div>\n" if pictures else ""
+    return f"<h3>Bits</h3>\n<div class=\"all-bits\">\n{''.join(pictures)}</div>\n" if pictures else ""
 
 
 # what happened

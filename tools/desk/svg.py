@@ -42,7 +42,8 @@ class Scene:
         self.readings = readings(board, made, states, end)
         marks = mark_spans(board, made, states, end)
         self.messages = [MessageLane(board, reading, mark, self.times) for reading, mark in zip(self.readings, marks)]
-        self.groups = [[IpduLane(board.ipdus[lane.number], lane, self.times), *self.under(board.carried(lane.number))] for lane in lanes(board, made, end)]
+        self.lanes = lanes(board, made, end)
+        self.groups = [[IpduLane(board.ipdus[lane.number], lane, self.times), *self.under(board.carried(lane.number))] for lane in self.lanes]
         alone = [entry for entry in board.objects if entry.record.ipdu == NONE and entry.record.sender == NONE]
         self.groups += [self.under(alone)] if alone else []
 
