@@ -21,7 +21,7 @@ sys.dont_write_bytecode = True
 TOP = os.path.join(os.path.dirname(os.path.abspath(__file__)), "..")
 sys.path[:0] = [os.path.join(TOP, "tools"), os.path.join(TOP, "tests", "desk")]
 from desk import html, layer, source, svg
-from desk.report_words import unread_line
+from desk.run import unread_line
 from journeys import Expected, in_units, largest, raw_in, samples_of, time_of, wandering
 
 DRIVE = os.path.join(TOP, "target", "bin", "drive")
@@ -40,8 +40,8 @@ LONG = 5000  # ticks
 SUMMARY = ["Front humidity: 45.0 to 61.4 %, last 50.1 %, 7 readings sent", "Rear humidity: 45.0 to 59.9 %, last 45.1 %, 7 readings sent",
            "Door: open and closed, last open, 10 readings sent", "Case light: 200 to 1000 lx, last 200 lx, 10 readings sent",
            "Shock: 0.07 to 0.08 g, last 0.08 g, 2 readings taken", "Wanted humidity: 51.2 to 55.0 %, last 51.2 %, at least 3 readings arrived",
-           "Front display: 45.0 to 61.4 %, last 50.1 %, at least 6 readings arrived", "Freezer: -21 to -2 °C, last -2 °C, 10 readings sent",
-           "Freezer display: -41 to -21 °C, last -41 °C, at least 2 readings arrived", "Case freezer: -14 to 0 °C, last -14 °C, at least 2 readings arrived",
+           "Front display: 45.0 to 61.4 %, last 50.1 %, 7 readings arrived", "Freezer: -21 to -2 °C, last -2 °C, 10 readings sent",
+           "Freezer display: -41 to -21 °C, last -41 °C, 2 readings arrived", "Case freezer: -14 to 0 °C, last -14 °C, at least 2 readings arrived",
            "I-PDU Humidity: 1 deadline missed", "I-PDU Case: 6 deadlines missed", "Shock: values were lost, at least 1"]
 
 
@@ -206,7 +206,7 @@ def values_of(board, number, frame, data):
 
 def check_readings(journey, expected, data, tables):
     """Rows of the readings that are sent or taken, and of the sheet; how many faults and refused calls there are."""
-    refused = sum(step.status != 0 and (step.call, step.status) != ("receive", 3) for step in journey.made)
+    refused = sum(step.status != 0 and (step.call, step.status) not in (("receive", 3), ("receive", 4)) for step in journey.made)
     bad = sum(expected.counts[kind] for kind in ("no_confirm", "error", "deadline"))
     for name, count in (("refused", refused), ("faults", bad)):
         if max(0, len(tables.get(name, [])) - 1) != count:

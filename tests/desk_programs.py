@@ -5,6 +5,7 @@ target/bin/table_check; what needs a database is left out with a word where pyth
 import os
 import pty
 import re
+import shlex
 import subprocess
 import sys
 import tempfile
@@ -47,7 +48,7 @@ def has_databases(folder):
 def commands(document):
     """The lines of a document that run the two programs."""
     text = contents(os.path.join(TOP, document)).replace("\\\n", " ")
-    return [line.split("#")[0].split() for line in re.findall(r"^    (tools/(?:table|journey) .*)$", text, re.MULTILINE)]
+    return [shlex.split(line, comments=True) for line in re.findall(r"^    (tools/(?:table|journey) .*)$", text, re.MULTILINE)]
 
 
 def played(folder, document, least):

@@ -21,7 +21,7 @@ from desk.explain import explain
 from desk.records import HEADER, HEADER_SIZE, IPDU_SIZE, MOST_IPDUS, MOST_OBJECTS, OBJECT_SIZE, RECEIVE, ObjectRecord, table_bytes
 from desk.rules import (DEPTH, DEPTH_SUM, FIRST_OBJECT, HEADER_PLACE, HEADER_RULES, IPDU_RULES, OBJECT_RULES, WHOLE_HEADER, first_fault,
                         record_at, record_size)
-from desk.show import show, show_board
+from desk.show import show
 from desk.wrong import Wrong, read_bytes, write
 
 DAMAGED, RIGHT_TABLES, SECONDS = 12000, 420, 2
@@ -329,7 +329,7 @@ def refusal(call, *arguments):
 
 
 def check_text(request):
-    """show as people read it, what it refuses, and a board by name."""
+    """show as people read it, and what it refuses."""
     if show(request, "van", 10) != PINNED:
         fail(f"show gives\n{show(request, 'van', 10)}", request)
     wrong = changed(request, 36, 33)
@@ -341,15 +341,6 @@ def check_text(request):
     ]:
         if want != got:
             fail(f"show refuses with {got}, should be {want}", request)
-    text = show_board(source.load(os.path.join(TOP, "examples", "van.toml")).boards()[0]).split("\n")
-    for want in ["van: 3 I-PDUs, 10 objects, a table of 384 bytes; a tick is 100 ms",
-                 "I-PDU 2 Case, id 0x200, received, 4 bytes: deadline 500 ms, first deadline 800 ms",
-                 "     0  a c c c c c c c",
-                 "  object 3 CaseLight: sent, pending, initially 200 lx, filter NewIsWithin (min 100 lx, max 3000 lx). Light on the case; "
-                 "it waits for the next frame of its I-PDU",
-                 "  object 8 FreezerDisplay: receives object 7 Freezer, signed, initially -18 °C"]:
-        if want not in text:
-            sys.exit(f"desk_tables.py: the board of van.toml has no line {want!r}: {text}")
 
 
 def main():

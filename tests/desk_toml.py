@@ -31,6 +31,7 @@ REFUSED = [
     ('tick_ms = 10\nnodes = []\nleave_out = ["X"]\n', ["leave_out: is for what a database has, and there is no database"]),
     (HEAD + "[ipdu]\nF = 3\n", ["ipdu.F: has to be a section [ipdu.F]"]),
     (HEAD + "ipdu = 3\n", ["ipdu: is 3, has to be a section [ipdu.NAME]"]),
+    (HEAD + "message = 3\n" + IPDU, ["message: is 3, has to be a section [message.NAME]"]),
     (HEAD + '[ipdu."1F"]\n', ['ipdu.1F: "1F" is no name: letters, digits and _, no digit first']),
     (HEAD + "[ipdu.F]\n", ["ipdu.F.size_in_bytes: is missing; it has to be a whole number"]),
     (HEAD + "[ipdu.F]\nsize_in_bytes = 9\n", ["ipdu.F.size_in_bytes: is 9, has to be 1 to 8, the bytes of a frame"]),

@@ -17,7 +17,7 @@ SCREEN = re.compile(r"(?:\(\S+\)\s+)?\S+\s+(?:(?:TX|RX)\s+.{3}\s+)?" + HEX + r"+
 BYTES = rf"(?P<data>(?:{HEX}{{2}}(?:\.?{HEX}{{2}})*)?)"
 # What stands behind the # of the identifier. `more` is what a frame has beside its bytes.
 BODIES = [
-    (REMOTE, re.compile(rf"[Rr](?P<data>)(?P<more>[0-7]?|8(?:_[9A-Fa-f])?)")),
+    (REMOTE, re.compile(r"[Rr](?P<data>)(?P<more>[0-7]?|8(?:_[9A-Fa-f])?)")),
     (FD, re.compile(rf"#(?P<more>{HEX}){BYTES}")),
     (XL, re.compile(rf"(?P<more>{HEX}{{2}}:{HEX}{{2}}:{HEX}{{8}})#{BYTES}")),
     (DATA, re.compile(rf"{BYTES}(?P<more>(?:_[9A-Fa-f])?)")),

@@ -2,7 +2,8 @@
 from .records import HEADER, HEADER_SIZE, IPDU_SIZE, MOST_IPDUS, MOST_OBJECTS, OBJECT_SIZE
 from .remedies import fitting_headers, header_bytes, remedies
 from .rules import HEADER_PLACE, are_counts, faults, first_fault, record_at, record_size
-from .wording import Names, bytes_words, fault_lines, joined, remedy_line
+from .wording import Names, bytes_words, fault_lines, remedy_line
+from .words import joined
 
 RESERVED_FROM = HEADER[-1].at + HEADER[-1].size
 MOST_NAMED = 8  # so many other wrong records, or headers that would fit, are named

@@ -2,8 +2,9 @@
 from collections import Counter
 
 from . import html_sections as parts
-from .report_words import counted, escaped, listed, lost, refusal, spaced, titled
+from .report_words import escaped, is_empty, lost, refusal, refused, spaced, titled
 from .svg import Scene, pictures
+from .words import counted, joined
 
 STYLE = """
 :root{color:#1c2730;background:#fff;font:15px/1.45 Arial,Helvetica,'Liberation Sans','DejaVu Sans',sans-serif}
@@ -64,7 +65,7 @@ PROVED = ("The values, marks and requests of this page are the answers of the pr
 def facts(board, made, clock, lanes, unread):
     """(name, words, whether it is bad) for the head."""
     count = Counter(event.what for lane in lanes for event in lane.events)
-    refused = Counter(step.status for step in made if not step.is_done)
+    statuses, empty = Counter(step.status for step in refused(made)), sum(map(is_empty, made))
     missed, overflows = count["deadline"], len(lost(made))
     rows = [
         ("Network", board.network.title, False), ("Node", board.node, False), ("Tick", f"{board.network.milliseconds(1)} ms", False),
@@ -74,7 +75,8 @@ def facts(board, made, clock, lanes, unread):
         ("Deadlines missed", f"{missed:,}" if missed else "none", bool(missed)),
         ("Lost values", f"at least {overflows:,}, as receives from a full queue said" if overflows else "none seen", bool(overflows)),
     ]
-    rows += [("Calls refused", f"{number:,} with {refusal(status)}", False) for status, number in sorted(refused.items())] or [("Calls refused", "none", False)]
+    rows += [("Empty queues", f"found by {counted(empty, 'receive')}", False)] if empty else []
+    rows += [("Calls refused", f"{number:,} with {refusal(status)}", False) for status, number in sorted(statuses.items())] or [("Calls refused", "none", False)]
     return rows + ([("Script", f"ends at line {unread}, which can't be read", True)] if unread is not None else [])
 
 
@@ -95,7 +97,7 @@ def sentence(reading):
     raws = dict.fromkeys(value.raw for value in reading.samples)
     least, greatest = reading.extremes()
     if all(raw in scaling.names for raw in raws):
-        span = listed([scaling.names[raw] for raw in raws])
+        span = joined([scaling.names[raw] for raw in raws])
     elif least.raw == greatest.raw:
         span = f"{reading.text(least)} throughout"
     else:
@@ -125,7 +127,6 @@ def html(board, made, states, title, unread=None):
     """The report. `unread` is the number of the script's line that can't be read, where the run ended at one."""
     title, scene = titled(title), Scene(board, made, states)
     clock, lanes = scene.clock, scene.lanes
-    refused = sum(not step.is_done for step in made)
     sections = [
         head(title, facts(board, made, clock, lanes, unread)),
         parts.section("Summary", summary(board, scene, made)),
@@ -134,7 +135,7 @@ def html(board, made, states, title, unread=None):
         parts.section("Sheet", parts.sheet_table(board, made)),
         picture_section(scene, title),
         parts.section("Missed deadlines and errors", parts.fault_table(board, lanes, clock)),
-        parts.folded("Refused calls", refused, parts.refused_table(made, clock)),
+        parts.folded("Refused calls", len(refused(made)), parts.refused_table(made, clock)),
         parts.section("Table", "<h3>I-PDUs</h3>\n" + parts.ipdu_table(board) + "<h3>Messages</h3>\n" + parts.message_table(board)
                       + parts.bits_pictures(board)),
         parts.folded("Frames", len(parts.frames(lanes)), parts.frame_table(board, lanes, clock)),

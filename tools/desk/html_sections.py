@@ -4,9 +4,10 @@ from html import escape
 from . import bits
 from .network import MODES, TRANSFERS
 from .records import NONE, SEND
-from .report_words import counted, escaped, identifier, refusal
+from .report_words import escaped, refusal, refused
 from .sections import plain
 from .sheet import sheet
+from .words import counted, identifier
 
 
 class Markup(str):
@@ -45,11 +46,12 @@ def shown_at(reading, value, clock):
 
 
 def tally(reading):
-    """How many readings there were. Of what the layer holds a second arrival of the same value may not be seen."""
+    """How many readings there were. Behind a filter a second arrival of the same value may not be seen."""
     verb = "sent" if reading.is_sent else "taken" if reading.is_queued else "arrived"
     if not reading.samples:
         return f"no reading {verb}"
-    return ("at least " if verb == "arrived" else "") + f"{counted(len(reading.samples), 'reading')} {verb}"
+    at_least = verb == "arrived" and not reading.passes_all
+    return ("at least " if at_least else "") + f"{counted(len(reading.samples), 'reading')} {verb}"
 
 
 def reading_rows(readings, clock):
@@ -160,7 +162,7 @@ def call_text(step):
 
 
 def refused_table(made, clock):
-    rows = [[clock.words(step.at), step.line, call_text(step), refusal(step.status)] for step in made if not step.is_done]
+    rows = [[clock.words(step.at), step.line, call_text(step), refusal(step.status)] for step in refused(made)]
     return table("refused", ["time", "line", "call", "answer"], rows, "No call was refused.")
 
 

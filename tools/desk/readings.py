@@ -48,6 +48,10 @@ class Reading:
     def is_queued(self):
         return self.entry.record.depth > 0
 
+    @property
+    def passes_all(self):
+        return self.entry.filter().name == "Always"
+
     def raws(self):
         """All values that a picture shows."""
         return [value.raw for run in self.lines for value in run.values] + [value.raw for value in self.dots]
@@ -117,8 +121,14 @@ class Collect:
             reading.dots.append(value)
             reading.samples.append(value)
 
+    def arrives(self, step, number):
+        """Whether a step surely brings an object a value: it is delivered, and the object has no filter."""
+        record, given = self.board.objects[number].record, step.numbers
+        delivered = step.call == "indication" and given == (record.ipdu, 1) or step.call == "send" and given[0] == record.sender
+        return delivered and self.readings[number].passes_all
+
     def hold(self, step, state):
-        """What unqueued receive objects hold; a reading where the value is another, or where it was not marked as arrived before."""
+        """What unqueued receive objects hold; a reading where a value arrives, where it is another, or where it was not marked as arrived before."""
         for number, raw in state.values.items():
             if raw is None:
                 continue
@@ -128,7 +138,7 @@ class Collect:
                 self.open.setdefault(number, []).append(value)
                 self.held[number] = raw
             newly = state.marks[number] & ARRIVED and not (self.before and (self.before.marks[number] or 0) & ARRIVED)
-            if step.call not in ("start", "initialise") and (changed or newly):
+            if step.call not in ("start", "initialise") and (changed or newly or self.arrives(step, number)):
                 self.readings[number].samples.append(value)
 
 

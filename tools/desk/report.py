@@ -5,7 +5,7 @@ from . import bits
 from .network import MODES, TRANSFERS
 from .records import MIXED, MOST_DEPTHS, MOST_IPDUS, MOST_OBJECTS, NONE, PERIODIC, SEND
 from .steps import raw_ends
-from .words import can_identifier, count, ends, lies, made_by, one_line
+from .words import can_identifier, counted, ends, lies, made_by, one_line
 from .worth_a_look import worth_a_look
 
 WIDTH = 120
@@ -53,7 +53,7 @@ class Report:
         return lines + self.objects() + self.values() + self.names() + self.inside() + self.comments()
 
     def time(self, ticks):
-        return f"{self.network.milliseconds(ticks)} ms ({count(ticks, 'tick')})"
+        return f"{self.network.milliseconds(ticks)} ms ({counted(ticks, 'tick')})"
 
     def used(self):
         board = self.board
@@ -73,7 +73,7 @@ class Report:
         ipdu, record, carried = self.board.ipdus[number], self.board.ipdu_records[number], self.board.carried(number)
         covered = {place for entry in carried for place in bits.places(entry.record.start, entry.record.bits, entry.record.big)}
         rows = [("direction", "send" if record.direction == SEND else "receive"), ("bus", f"{can_identifier(ipdu)}, {ends(ipdu)}"),
-                ("length", f"{count(ipdu.length, 'byte')}, {len(covered)} of {8 * ipdu.length} bits used"), *self.times(ipdu, record)]
+                ("length", f"{counted(ipdu.length, 'byte')}, {len(covered)} of {8 * ipdu.length} bits used"), *self.times(ipdu, record)]
         comment = wrapped(one_line(ipdu.comment), GAP) + [""] if ipdu.comment else []
         picture = bits.picture(ipdu.length, [(entry.name, entry.record.start, entry.record.bits, entry.record.big) for entry in carried])
         shown = [line for row in picture for line in wrapped(row, GAP)]

@@ -2,7 +2,7 @@
 import re
 from html import escape
 
-from .run import LIMIT, duration
+from .run import LIMIT, NO_MESSAGE, duration
 
 # docs/SCRIPT.md's answers, those that refuse a call.
 REFUSALS = {
@@ -34,21 +34,6 @@ def titled(title):
     return clean(title) or "Journey"
 
 
-def unread_line(script, made):
-    """The number of the line that ended a run because it can't be read, or None where all lines were made."""
-    return None if script.split("\n")[len(made):] == [""] else len(made) + 1
-
-
-def counted(count, one, many=None):
-    return f"{count:,} {one if count == 1 else many or one + 's'}"
-
-
-def listed(words):
-    """One, two and three."""
-    *others, last = words
-    return f"{', '.join(others)} and {last}" if others else last
-
-
 def spaced(name):
     """A name as people write it: FrontHumidity is Front humidity."""
     parts = re.findall("[A-Z]+(?![a-z])|[A-Z]?[a-z]+|[0-9]+", name)
@@ -59,13 +44,6 @@ def spaced(name):
 
 def refusal(status):
     return f"{status}: {REFUSALS.get(status, 'an answer that is not known')}"
-
-
-def identifier(ipdu):
-    """A CAN identifier as people write it."""
-    if ipdu.identifier is None:
-        return "no identifier"
-    return f"0x{ipdu.identifier:X}" + (" extended" if ipdu.extended else "")
 
 
 class Clock:
@@ -86,6 +64,16 @@ class Clock:
     def length(self):
         """From the first call to the last tick."""
         return self.words(self.ticks - 1)
+
+
+def is_empty(step):
+    """A receive that found its queue empty, as every drain ends."""
+    return (step.call, step.status) == ("receive", NO_MESSAGE)
+
+
+def refused(made):
+    """The calls that were refused, but for receives from an empty queue."""
+    return [step for step in made if not step.is_done and not is_empty(step)]
 
 
 def lost(made):

@@ -8,7 +8,7 @@ NUMBERS = {"start": 0, "stop": 0, "send": 2, "initialise": 2, "receive": 1, "sta
            "stop_periodic": 0, "indication": 2, "confirm": 2, "tick": 0}
 COMMAND = re.compile(r"([a-z_]+)((?: -?[0-9]+)*)(?: ([0-9A-F]+))?")
 ANSWER = re.compile(r"([0-9]+)(?: val (-?[0-9]+))?((?: req [0-9]+ [0-9A-F]+)*)")
-DONE, LIMIT, CANNOT_BE_READ = 0, 3, 9
+DONE, LIMIT, NO_MESSAGE, CANNOT_BE_READ = 0, 3, 4, 9
 
 
 @dataclass
@@ -69,10 +69,9 @@ def steps(script, script_file, output, output_file):
     return timed(made)
 
 
-def unread(script, made):
-    """The number of the line that ended the run because it can't be read, or None."""
-    lines = script.count("\n") + bool(script.rpartition("\n")[2])
-    return len(made) + 1 if len(made) < lines else None
+def unread_line(script, made):
+    """The number of the line that ended a run because it can't be read, or None where all lines were made."""
+    return None if script.split("\n")[len(made):] == [""] else len(made) + 1
 
 
 def timed(made):

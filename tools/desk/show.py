@@ -1,4 +1,4 @@
-"""A table as the TOML that compiles to the same bytes, with the picture of each I-PDU; and the board of a node for people."""
+"""A table as the TOML that compiles to the same bytes, with the picture of each I-PDU."""
 from decimal import Decimal, InvalidOperation
 
 from . import bits
@@ -8,6 +8,7 @@ from .records import DIRECT, NONE, PERIODIC, RECEIVE, SEND, ipdu_records, object
 from .rules import first_fault
 from .sections import plain
 from .source import NAME
+from .words import counted
 from .wrong import Wrong, wrong
 
 LEAST_TICK, MOST_TICK, TICK_DIGITS = Decimal("0.000001"), Decimal(1000000), 20
@@ -41,10 +42,6 @@ def tick_of(tick_ms):
     if tick is None or not tick.is_finite() or not LEAST_TICK <= tick <= MOST_TICK or len(tick.as_tuple().digits) > TICK_DIGITS:
         raise wrong("tick_ms", "", f"is {tick_ms}, has to be a number from {LEAST_TICK:f} to {MOST_TICK} with at most {TICK_DIGITS} digits")
     return tick
-
-
-def counted(count, what):
-    return f"{count} {what}" + ("s" if count != 1 else "")
 
 
 def placed(name, record):
@@ -159,53 +156,3 @@ def filter_value(record):
 
 def constant_value(name, word, signed):
     return bits.meant(word, signed) if name in ("min", "max") else f"0x{word:X}" if name in ("mask", "x") else word
-
-
-# for people
-
-def show_board(board):
-    """The I-PDUs of a node with their pictures, and its objects, by name and in their units."""
-    network = board.network
-    counts = f"{counted(len(board.ipdus), 'I-PDU')}, {counted(len(board.objects), 'object')}"
-    sections = [[f"{board.node}: {counts}, a table of {len(board.table)} bytes; a tick is {network.milliseconds(1)} ms"]]
-    for number, (ipdu, record) in enumerate(zip(board.ipdus, board.ipdu_records)):
-        carried = board.carried(number)
-        picture = bits.picture(ipdu.length, [placed(entry.name, entry.record) for entry in carried])
-        sections.append([f"I-PDU {number} {ipdu_words(ipdu, record, network)}", *indented(comment_lines(ipdu)), *indented(picture),
-                         *indented(object_words(board, entry) for entry in carried)])
-    alone = board.carried(NONE)
-    if alone:
-        sections.append(["in no I-PDU", *indented(object_words(board, entry) for entry in alone)])
-    return "\n\n".join("\n".join(lines) for lines in sections) + "\n"
-
-
-def indented(lines):
-    return [f"  {line}" for line in lines]
-
-
-def comment_lines(described):
-    """The comment of an I-PDU or a message in one line, where it has one."""
-    return [" ".join(described.comment.split())] if described.comment.strip() else []
-
-
-def ipdu_words(ipdu, record, network):
-    """Name, identifier and way of an I-PDU, and its times that are not 0."""
-    identifier = f", id 0x{ipdu.identifier:X}{' extended' if ipdu.extended else ''}" if ipdu.identifier is not None else ""
-    mode = [MODES[record.mode]] if record.direction == SEND else []
-    times = [("period", record.period), ("time offset", record.offset), ("minimum delay", record.minimum_delay), ("deadline", record.deadline),
-             ("first deadline", record.first_deadline)]
-    said = mode + [f"{what} {network.milliseconds(ticks)} ms" for what, ticks in times if ticks]
-    return f"{ipdu.name}{identifier}, {WAYS[record.direction]}, {counted(record.length, 'byte')}" + (f": {', '.join(said)}" if said else "")
-
-
-def object_words(board, entry):
-    record = entry.record
-    said = [WAYS[record.kind]]
-    if record.sender != NONE:
-        said = [f"receives object {record.sender} {board.object_name(record.sender)}"]
-    said += ["signed"] if record.signed else []
-    said += [TRANSFERS[record.transfer]] if record.transfer else []
-    said += [f"a queue of {record.depth}"] if record.depth else []
-    said += [f"initially {entry.text(record.initial)}"]
-    said += [f"filter {entry.filter().words(entry.scaling, record.signed)}"] if record.filter else []
-    return ". ".join([f"object {entry.number} {entry.name}: {', '.join(said)}", *comment_lines(entry.of)])

@@ -151,7 +151,7 @@ class Source:
     def wanted_receivers(self, name, sender):
         """The nodes that receive a message of an I-PDU."""
         nodes = []
-        for data in self.data.get("message", {}).values():
+        for data in self.top.table("message").values():
             if isinstance(data, dict) and data.get("ipdu") == name:
                 named = [data.get("node")] if "node" in data else data.get("receivers", [])
                 nodes += [node for node in named if isinstance(node, str) and node != sender] if isinstance(named, list) else []
@@ -204,8 +204,8 @@ class Source:
             key, start = "start_bit", section.whole("start_bit", 0, most)
             message.start = start
         if not bits.fits(*message.placed(), message.ipdu.length):
-            raise section.wrong(key, f"is {start}: {message.bits} {'big' if message.big else 'little'} bits from there leave the {message.ipdu.length} bytes of "
-                                f"{message.ipdu.name}")
+            order = "big" if message.big else "little"
+            raise section.wrong(key, f"is {start}: {message.bits} {order} bits from there leave the {message.ipdu.length} bytes of {message.ipdu.name}")
 
     def meaning(self, message, section):
         """Scaling, named values and what people may expect."""

@@ -3,10 +3,11 @@ import math
 
 from .network import NONE
 from .readings import layer_spans, mark_spans, readings
-from .report_words import Clock, counted, escaped, titled
+from .report_words import Clock, escaped, titled
 from .svg_draw import LARGE, NORMAL, SMALL, Canvas, definitions, shortened, text_width
 from .svg_lanes import NAMES_AT, PLOT_AT, THIN, IpduLane, MessageLane, Times, near
 from .timeline import lanes
+from .words import counted
 
 TICK_WIDTH, LEAST_WIDTH, MOST_WIDTH = 30, 760, 1700  # pixels of a tick, and of the plot
 RIGHT = 26

@@ -4,8 +4,8 @@ from itertools import product
 from .network import MODES
 from .readings import Run
 from .records import NONE, SEND
-from .report_words import counted, identifier
 from .svg_draw import NORMAL, SMALL, Box, text_width
+from .words import counted, identifier
 
 NAMES_AT, INDENT, PLOT_AT = 16, 12, 262  # where names and the time's beginning are, from the left
 ABOVE, BELOW = 6, 6  # left free in a message's lane

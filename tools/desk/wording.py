@@ -3,6 +3,7 @@ from . import bits
 from .network import FILTERS, MODES, TRANSFERS
 from .records import BIG, MOST_DEPTHS, NONE, RECEIVE, SEND
 from .rules import DEPTH_SUM, FIRST_OBJECT, HEADER_PLACE
+from .words import joined
 
 WAYS = {SEND: "send", RECEIVE: "receive"}
 # what the numbers of a field are called
@@ -27,10 +28,6 @@ class Names:
         number, kind, name = (place, "I-PDU", self.ipdu_name) if place < FIRST_OBJECT else (place - FIRST_OBJECT, "object", self.object_name)
         plain, given = f"{kind} {number}", name and name(number)
         return plain if given in (None, plain) else f"{plain} {given}"
-
-
-def joined(words, last=" and "):
-    return last.join([", ".join(words[:-1]), words[-1]] if len(words) > 1 else words)
 
 
 def value_words(field, value):

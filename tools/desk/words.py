@@ -1,4 +1,4 @@
-"""A board's I-PDUs and objects in words, for the comments of a header and for the report."""
+"""Words that several texts for people share, and a board's I-PDUs and objects in words."""
 import os
 
 from .records import NONE, SEND
@@ -21,13 +21,23 @@ def made_from(board):
     return f"Node {board.node} of {one_line(board.network.title)}. {made_by(board)}"
 
 
-def count(number, what):
-    return f"{number} {what}{'' if number == 1 else 's'}"
+def counted(number, what):
+    """1 tick, 2 ticks."""
+    return f"{number:,} {what}{'' if number == 1 else 's'}"
+
+
+def joined(words, last=" and "):
+    """One, two and three."""
+    return last.join([", ".join(words[:-1]), words[-1]] if len(words) > 1 else words)
+
+
+def identifier(ipdu):
+    """A CAN identifier as people write it."""
+    return "no identifier" if ipdu.identifier is None else f"0x{ipdu.identifier:X}{' extended' if ipdu.extended else ''}"
 
 
 def can_identifier(ipdu):
-    """The CAN identifier, or none."""
-    return "no identifier" if ipdu.identifier is None else f"identifier 0x{ipdu.identifier:X}{' (extended)' if ipdu.extended else ''}"
+    return "no identifier" if ipdu.identifier is None else f"identifier {identifier(ipdu)}"
 
 
 def ends(ipdu):
@@ -43,7 +53,7 @@ def commented(words, comment):
 def ipdu_words(board, number):
     """Direction, length and identifier of an I-PDU."""
     ipdu, direction = board.ipdus[number], "sent" if board.ipdu_records[number].direction == SEND else "received"
-    return commented(f"I-PDU {ipdu.name}: {direction}, {count(ipdu.length, 'byte')}, {can_identifier(ipdu)}", ipdu.comment)
+    return commented(f"I-PDU {ipdu.name}: {direction}, {counted(ipdu.length, 'byte')}, {can_identifier(ipdu)}", ipdu.comment)
 
 
 def lies(board, entry):
@@ -59,7 +69,7 @@ def object_words(board, entry):
     """Kind, I-PDU, bits, filter and unit of an object."""
     record, unit = entry.record, one_line(entry.scaling.unit)
     place = f", {'big' if record.big else 'little'}, from bit {record.start}" if record.ipdu != NONE else ""
-    words = f"{entry.name}: {lies(board, entry)}, {count(record.bits, 'signed bit' if record.signed else 'bit')}{place}"
+    words = f"{entry.name}: {lies(board, entry)}, {counted(record.bits, 'signed bit' if record.signed else 'bit')}{place}"
     words += f"; {one_line(entry.filter().words(entry.scaling, record.signed))}" + (f"; in {unit}" if unit else "")
     return commented(words, entry.of.comment)
 
@@ -67,7 +77,7 @@ def object_words(board, entry):
 def records(board):
     """The rows of the table, 16 bytes each, with the name of the record before its first one."""
     table, at = board.table, 0
-    names = [f"{count(len(board.ipdus), 'I-PDU')}, {count(len(board.objects), 'object')}, {len(table)} bytes"]
+    names = [f"{counted(len(board.ipdus), 'I-PDU')}, {counted(len(board.objects), 'object')}, {len(table)} bytes"]
     names += [f"I-PDU {number}, {ipdu.name}" for number, ipdu in enumerate(board.ipdus)]
     names += [name for entry in board.objects for name in (f"object {entry.number}, {entry.name}", "")]
     for name in names:

@@ -3,7 +3,7 @@ from . import bits
 from .network import FILTERS
 from .records import MIXED, PERIODIC, RECEIVE, SEND, WHOLE
 from .steps import raw_ends
-from .words import count, one_line
+from .words import counted, one_line
 
 NEVER = next(number for number, (name, _) in enumerate(FILTERS) if name == "Never")
 
@@ -46,7 +46,7 @@ def shared(carried):
 
 def object_reasons(board, entry):
     record, scaling, (least, greatest) = entry.record, entry.scaling, raw_ends(entry.record)
-    size = count(record.bits, "signed bit" if record.signed else "bit")
+    size = counted(record.bits, "signed bit" if record.signed else "bit")
     if record.kind == SEND and not is_received(board.network, entry.of):
         yield "no node receives it"
     if record.kind == RECEIVE and record.filter == NEVER:
