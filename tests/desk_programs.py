@@ -14,7 +14,7 @@ TOP = os.path.realpath(os.path.join(os.path.dirname(os.path.abspath(__file__)), 
 WRITTEN = ["VAN.table", "VAN.h", "VAN.rs", "VAN.txt", "CASE.table", "CASE.h", "CASE.rs", "CASE.txt"]
 BEGINNINGS = {".svg": "<svg", ".html": "<!DOCTYPE html>", ".script": "start\n", ".vcd": "$timescale", ".log": "(0000000001."}
 NEEDS_DATABASE = "needs Debian's python3-canmatrix"
-LONG = 40000  # ticks, so that playing them takes more than the time after which progress is shown
+SLOW = "#!/bin/sh\nwhile read -r line; do sleep 0.3; echo 0; done < \"$2\"\n"  # in the place of drive
 
 
 def fail(words):
@@ -162,9 +162,11 @@ def quiet_end(folder):
 
 def progress(folder):
     """On a terminal a line that is written over and cleared at the end; elsewhere nothing."""
-    with open(os.path.join(folder, "long.script"), "w", encoding="utf-8") as file:
-        file.write("start\n" + "tick\n" * LONG)
-    words = ["tools/journey", "svg", "examples/van.toml", "long.script", "--out", "target/long.svg"]
+    for name, text in (("slow", SLOW), ("slow.script", "stop\n" * 3)):
+        with open(os.path.join(folder, name), "w", encoding="utf-8") as file:
+            file.write(text)
+    os.chmod(os.path.join(folder, "slow"), 0o755)
+    words = ["tools/journey", "svg", "examples/van.toml", "slow.script", "--drive", "slow", "--out", "target/slow.svg"]
     said = run(folder, *words)
     if said.returncode != 0 or said.stdout or said.stderr:
         fail(f"{' '.join(words)} ends with {said.returncode} and says {said.stderr!r} where there is no terminal")
@@ -178,8 +180,8 @@ def progress(folder):
         except OSError:
             pass  # the other end is closed
     os.close(ours)
-    counts = re.findall(rb"calls made: ([0-9,]+) of ", shown)
-    if process.returncode != 0 or not counts or b"calls are shown" not in shown or not shown.endswith(b"\r\x1b[K") or b"\n" in shown:
+    counts = re.findall(rb"calls made: ([0-9]) of 3", shown)
+    if process.returncode != 0 or counts != [b"0", b"1", b"2"] * 2 or b"3 calls are shown" not in shown or not shown.endswith(b"\r\x1b[K") or b"\n" in shown:
         fail(f"progress on a terminal is {shown[:300]!r}")
 
 
