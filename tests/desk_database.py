@@ -71,10 +71,10 @@ def test_readings(folder):
             for given in cases.attribute_ways("BO_", "GenMsgSendType", "BO_ 100", word):
                 text = cases.dbc_text([cases.FRAME, cases.SIGNAL, *cases.CYCLE, f'BA_ "GenMsgCycleTime" BO_ 100 {cycle};', *given])
                 ipdu = database.read(folder.file("a.dbc", text))["ipdu"]["Frame"]
-                expected = mode if mode != "as timed" else "periodic" if cycle else "direct"
+                as_timed = mode == "as timed"
                 same(f"{word} with a cycle of {cycle}", (ipdu.get("transmission_mode"), "transmission_mode" in ipdu.get("refused", {})),
-                     (expected, expected is None))
-                same(f"{word}, its period", "time_period_ms" in ipdu, expected != "direct")
+                     (None if as_timed else mode, mode is None))
+                same(f"{word}, its period", "time_period_ms" in ipdu, cycle > 0 if as_timed else mode != "direct")
     for word, expected in cases.SIGNAL_SEND_TYPES.items():
         for given in cases.attribute_ways("SG_", "GenSigSendType", "SG_ 100 Signal", word):
             message = database.read(folder.file("a.dbc", cases.dbc_text([cases.FRAME, cases.SIGNAL, *given])))["message"]["Signal"]
@@ -86,6 +86,15 @@ def test_refusals(folder):
     for what, lines, toml, expected in cases.REFUSALS:
         folder.file("a.dbc", cases.dbc_text(lines))
         same(what, folder.refusal(load, folder.file("a.toml", cases.TOML + toml)), expected)
+
+
+def test_over(folder):
+    for what, lines, toml, node, ipdu, objects in cases.OVER:
+        folder.file("a.dbc", cases.dbc_text(lines))
+        board = next(board for board in load(folder.file("a.toml", cases.TOML.replace('"CASE"', '"CASE", "GATEWAY"') + toml)).boards() if board.node == node)
+        record = board.ipdu_records[0]
+        same(f"{what}, I-PDU", (record.mode, record.period, record.minimum_delay), ipdu)
+        same(f"{what}, objects", [(entry.name, entry.record.kind) for entry in board.objects], objects)
 
 
 def with_tools(program, *arguments):
@@ -219,6 +228,7 @@ def main():
         test_climate()
         test_readings(folder)
         test_refusals(folder)
+        test_over(folder)
         test_wrong_files(folder)
         test_container()
         others = test_other_formats(folder)

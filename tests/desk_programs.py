@@ -13,6 +13,7 @@ import tempfile
 TOP = os.path.realpath(os.path.join(os.path.dirname(os.path.abspath(__file__)), ".."))
 WRITTEN = ["VAN.table", "VAN.h", "VAN.rs", "VAN.txt", "CASE.table", "CASE.h", "CASE.rs", "CASE.txt"]
 BEGINNINGS = {".svg": "<svg", ".html": "<!DOCTYPE html>", ".script": "start\n", ".vcd": "$timescale", ".log": "(0000000001."}
+DATABASE = "climate"  # the example with one
 NEEDS_DATABASE = "needs Debian's python3-canmatrix"
 SLOW = "#!/bin/sh\nwhile read -r line; do sleep 0.3; echo 0; done < \"$2\"\n"  # in the place of drive
 
@@ -51,12 +52,13 @@ def commands(document):
     return [shlex.split(line, comments=True) for line in re.findall(r"^    (tools/(?:table|journey) .*)$", text, re.MULTILINE)]
 
 
-def played(folder, document, least):
+def played(folder, document, least, with_databases):
     """Every command of a document ends well, and what it names after --out is there and begins as it should."""
     found = commands(document)
     if len(found) < least:
         fail(f"{document} has {len(found)} commands, at least {least} were expected")
-    for words in found:
+    possible = [words for words in found if with_databases or not any(DATABASE in word for word in words)]
+    for words in possible:
         said = run(folder, *words)
         if said.returncode != 0 or "Traceback" in said.stderr:
             fail(f"{document}: {' '.join(words)} ends with {said.returncode}: {said.stderr}")
@@ -64,7 +66,7 @@ def played(folder, document, least):
             begins = BEGINNINGS.get(os.path.splitext(path)[1])
             if begins is not None and not contents(os.path.join(folder, path)).startswith(begins):
                 fail(f"{document}: {' '.join(words)} writes a {path} that does not begin with {begins}")
-    return len(found)
+    return len(possible)
 
 
 def tables_accepted(folder):
@@ -190,10 +192,11 @@ def main():
         fail("target/bin/drive or target/bin/table_check is missing: run 'rt check drive' and 'rt check table_check' first")
     with tempfile.TemporaryDirectory() as folder:
         folder_like(folder)
-        count, left_out = 0, ", the documents' commands left out: python3-canmatrix is not on this machine"
-        if has_databases(folder):
-            count, left_out = played(folder, "README.md", 3) + played(folder, "docs/DESK.md", 9), ""
+        with_databases, left_out = has_databases(folder), ", those with a database left out: python3-canmatrix is not on this machine"
+        count = played(folder, "README.md", 3, with_databases) + played(folder, "docs/DESK.md", 14, with_databases)
+        if with_databases:
             tables_accepted(folder)
+            left_out = ""
         wrong = refused(folder)
         explained(folder)
         helped(folder)

@@ -85,7 +85,7 @@ TIMES = [line for name, time in (("Cycle", 10), ("StartDelay", 20), ("Delay", 30
 START = 'BA_DEF_ SG_ "GenSigStartValue" FLOAT 0 0;'
 READINGS = [
     ("the least", [FRAME, SIGNAL],
-     {"id": 100, "extended": None, "sender": "VAN", "size_in_bytes": 8, "transmission_mode": "direct", "time_period_ms": None, "comment": None,
+     {"id": 100, "extended": None, "sender": "VAN", "size_in_bytes": 8, "transmission_mode": None, "time_period_ms": None, "comment": None,
       "refused": None},
      {"ipdu": "Frame", "dbc_start_bit": 0, "size_in_bits": 8, "byte_order": None, "signed": None, "factor": None, "offset": None, "unit": None, "minimum": None,
       "maximum": None, "initial_value_raw": None, "receivers": ["CASE"], "values": None, "transfer_property": None, "filter": None, "comment": None}),
@@ -102,7 +102,7 @@ READINGS = [
     ("times of a frame with an unknown mode", [FRAME, SIGNAL, *TIMES, *with_send_type("ifActive")],
      {"transmission_mode": None, "time_period_ms": 10, "time_offset_ms": 20, "minimum_delay_time_ms": 30}, {}),
     ("a J1939 frame", [f"BO_ {0x98FEF1FE} Frame: 8 VAN", SIGNAL], {"id": 0x18FEF1FE, "extended": True}, {}),
-    ("a cycle time by default", [FRAME, SIGNAL, CYCLE[0], 'BA_DEF_DEF_ "GenMsgCycleTime" 20;'], {"transmission_mode": "periodic", "time_period_ms": 20}, {}),
+    ("a cycle time by default", [FRAME, SIGNAL, CYCLE[0], 'BA_DEF_DEF_ "GenMsgCycleTime" 20;'], {"transmission_mode": None, "time_period_ms": 20}, {}),
     ("a fraction of a millisecond", [FRAME, SIGNAL, 'BA_DEF_ BO_ "GenMsgCycleTime" FLOAT 0 10;', 'BA_ "GenMsgCycleTime" BO_ 100 2.5;'],
      {"time_period_ms": Decimal("2.5")}, {}),
     ("a start value is as stored", [FRAME, SIGNAL.replace("(1,0)", "(0.5,-40)"), START, 'BA_ "GenSigStartValue" SG_ 100 Signal 130;'], {},
@@ -185,6 +185,19 @@ REFUSALS = [
     ("a section twice", [FRAME, SIGNAL], '[message."Frame.Signal"]\n[message.Signal]\n', ["a.toml: message.Signal: is Signal, which has a section already"]),
 ]
 
+# lines of a DBC, a TOML over it, a node, and what its first I-PDU (mode, period, minimum delay) and its objects (name, kind) are
+
+LONG_NAME = ['BA_DEF_ SG_ "SystemSignalLongSymbol" STRING;', 'BA_ "SystemSignalLongSymbol" SG_ 100 Signal "2nd signal - of the frame";']
+NOBODYS = [FRAME, SIGNAL.replace("CASE", "Vector__XXX")]
+OVER = [
+    ("a period of the TOML's", [FRAME, SIGNAL], "[ipdu.Frame]\ntime_period_ms = 50\n", "VAN", (1, 5, 0), [("Signal", 1)]),
+    ("a mode of the TOML's", [FRAME, SIGNAL, *TIMES], '[ipdu.Frame]\ntransmission_mode = "mixed"\n', "VAN", (2, 1, 0), [("Signal", 1)]),
+    ("a long name", [FRAME, SIGNAL, *LONG_NAME], "", "VAN", (0, 0, 0), [("_2nd_signal_of_the_frame", 1)]),
+    ("a message of nobody's", NOBODYS, "", "VAN", (0, 0, 0), [("Signal", 1)]),
+    ("a message of nobody's that the TOML gives receivers", NOBODYS, '[ipdu.Frame]\nreceivers = ["CASE"]\n', "CASE", (0, 0, 0), [("Signal", 2)]),
+    ("a message of one receiver beside the TOML's", [FRAME, SIGNAL], '[ipdu.Frame]\nreceivers = ["CASE", "GATEWAY"]\n', "GATEWAY", (0, 0, 0), []),
+]
+
 # wrong files: name, bytes, and what is said
 
 WRONG_FILES = [
@@ -242,13 +255,13 @@ KCD = """<?xml version="1.0" encoding="UTF-8"?>
 <Signal name="Signal" offset="16" length="12" endianess="big"><Consumer><NodeRef id="2"/></Consumer>
 <Value type="signed" slope="0.1" intercept="-40" unit="°C"/></Signal></Message></Bus>%s</NetworkDefinition>
 """
-KCD_IPDU = {"id": 0x120, "sender": "VAN", "size_in_bytes": 4, "transmission_mode": "periodic", "time_period_ms": 100}
+KCD_IPDU = {"id": 0x120, "sender": "VAN", "size_in_bytes": 4, "time_period_ms": 100}
 KCD_MESSAGE = {"ipdu": "Frame", "dbc_start_bit": 23, "size_in_bits": 12, "byte_order": "big", "signed": True, "factor": Decimal("0.1"), "offset": -40,
                "unit": "°C", "minimum": Decimal("-244.8"), "maximum": Decimal("164.7"), "receivers": ["CASE"]}
 XML_READINGS = [
     (KCD % "", KCD_IPDU),
     (KCD.replace('triggered="true" ', "") % "", KCD_IPDU),
-    (KCD.replace(' interval="100"', "") % "", {"id": 0x120, "sender": "VAN", "size_in_bytes": 4, "transmission_mode": "direct"}),
+    (KCD.replace(' interval="100"', "") % "", {"id": 0x120, "sender": "VAN", "size_in_bytes": 4}),
 ]
 WRONG_XML = [
     ("a.kcd", "", "a.kcd: canmatrix can't read it: no element found: line 1, column 0"),

@@ -3,6 +3,7 @@ import contextlib
 import io
 import logging
 import os
+import re
 import subprocess
 import sys
 from collections import Counter
@@ -70,6 +71,8 @@ def read(path):
     frames = [frame for frame in matrix.frames if frame.name != FREE_SIGNALS]
     if not frames:
         raise wrong(path, "", NO_FRAME)
+    for described in [*frames, *(signal for frame in frames for signal in frame.signals)]:
+        described.name = described.name and plain_name(described.name)
     check_once(path, "frame", [frame.name for frame in frames])
     check_once(path, "identifier", [f"0x{frame.arbitration_id.id:X}{' (extended)' if frame.arbitration_id.extended else ''}" for frame in frames])
     check_once(path, "signal", [signal.name and f"{frame.name}.{signal.name}" for frame in frames for signal in frame.signals])
@@ -119,6 +122,12 @@ def with_intervals(data):
     return ElementTree.tostring(root)
 
 
+def plain_name(name):
+    """Letters, digits and _, no digit first: a DBC's long names and other files may have more."""
+    plain = re.sub(r"[^A-Za-z0-9_]+", "_", name)
+    return f"_{plain}" if plain[:1].isdigit() else plain
+
+
 def check_once(path, what, names):
     if None in names:
         raise wrong(path, "", f"has a {what} with no name")
@@ -164,27 +173,26 @@ def ipdu(matrix, frame):
         refused[""] = "has extended multiplexing, and plain (one multiplexor, with signals m0, m1 ..) is all that is read; leave_out leaves it out"
     if frame.is_pdu_container:
         refused[""] = "holds several PDUs, and a frame holds one I-PDU here; leave_out leaves it out"
-    mode, times = sending(matrix, frame)
+    word = send_type(matrix, frame, "GenMsgSendType")
+    mode, times = sending(matrix, frame, word.lower())
     if mode is None:
-        word = send_type(matrix, frame, "GenMsgSendType")
         refused["transmission_mode"] = f"GenMsgSendType is {word}, and there is direct, periodic and mixed; transmission_mode = .. in the TOML says which"
     return without_empty({
         "id": frame.arbitration_id.id,
         "extended": frame.arbitration_id.extended or None,
         "sender": senders[0] if len(senders) == 1 else None,
         "size_in_bytes": frame.size,
-        "transmission_mode": mode,
+        "transmission_mode": None if word.lower() in NO_WORDS else mode,
         **times,
         "comment": (frame.comment or "").strip() or None,
         "refused": refused or None,
     })
 
 
-def sending(matrix, frame):
-    """The mode of a frame, None where its send type is not known, and the times that the mode has."""
+def sending(matrix, frame, word):
+    """The mode of a frame by its send type or else by its period, None where the type is not known; and the times that the mode has."""
     period = number(frame.attribute("GenMsgCycleTime", db=matrix, default=frame.cycle_time) or 0)
     offset, delay = (number(frame.attribute(name, db=matrix) or 0) or None for name in ("GenMsgStartDelayTime", "GenMsgDelayTime"))
-    word = send_type(matrix, frame, "GenMsgSendType").lower()
     if word in NO_WORDS:
         mode = "direct" if period == 0 else "periodic"
     else:

@@ -38,12 +38,19 @@ def merged(path, data):
             hidden = {key for way in TWO_WAYS if way & set(over) for key in way} | set(over)
             if kind == "ipdu" and "sender" not in given and "sender" not in over:
                 hidden |= SENDING
+            if given.get("receivers") == [] and has_receivers(data["ipdu"].get(given["ipdu"])):
+                hidden |= {"receivers"}
             reasons = given.get("refused", {})
             given = {key: value for key, value in given.items() if key not in hidden and key != "refused"}
             both[kind][name] = {**given, **over}
             origins[kind, name] = dict.fromkeys(given, file)
             refused[kind, name] = [line(file, f"{kind}.{name}.{key}".rstrip("."), reason) for key, reason in reasons.items() if key not in hidden]
     return both, origins, below["nodes"], refused
+
+
+def has_receivers(section):
+    """Whether the TOML says who receives an I-PDU: then a message of nobody's in the database is theirs."""
+    return isinstance(section, dict) and "receivers" in section
 
 
 def own_name(below, name):

@@ -36,8 +36,6 @@ def put(path, data):
 def board_of(network, node):
     """The board of a node; of the first one where none is named."""
     boards = {board.node: board for board in network.boards()}
-    if not boards:
-        raise wrong(network.file, "nodes", "names no node")
     if node is None:
         return next(iter(boards.values()))
     if node not in boards:

@@ -50,6 +50,8 @@ class Source:
         if self.tick <= 0:
             raise top.wrong("tick_ms", f"is {self.tick}, has to be above 0")
         nodes, outside = top.names("nodes"), top.names("outside", [])
+        if not nodes:
+            raise top.wrong("nodes", "has no name: a table is made for each of them")
         self.tables = nodes
         self.known_nodes = list(dict.fromkeys(nodes + outside + self.known_nodes))
         self.check_names("nodes", self.known_nodes)
