@@ -143,6 +143,14 @@ def explained(folder):
         fail(f"33 bits in FrontHumidity are explained with {wrong.returncode} and {wrong.stdout!r}")
 
 
+def ended(folder):
+    """A script with a line that can't be read is shown up to there, and the line is named."""
+    for command in ("log", "svg", "vcd", "report"):
+        said = run(folder, "tools/journey", command, "examples/van.toml", "bad.script")
+        if (said.returncode, said.stderr) != (0, "journey: bad.script: line 2: can't be read, and the run ends there\n"):
+            fail(f"tools/journey {command} of a script whose second line can't be read ends with {said.returncode} and says {said.stderr!r}")
+
+
 def helped(folder):
     """Every command has its help, which names its arguments."""
     known = {"table": ["compile", "show", "explain", "dbc"], "journey": ["script", "log", "svg", "vcd", "report"]}
@@ -199,6 +207,7 @@ def main():
             left_out = ""
         wrong = refused(folder)
         explained(folder)
+        ended(folder)
         helped(folder)
         quiet_end(folder)
         progress(folder)

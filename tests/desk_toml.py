@@ -1,16 +1,27 @@
 #!/usr/bin/env python3
 """What tools/table says of TOML files that are wrong, each a line with file, key and reason, all faults of a file at once; and what the keys mean
-where the examples do not show it: values in units and raw, by name, negative factors, receivers, deadlines, defaults, order. Needs no other program."""
+where the examples do not show it: values in units and raw, by name, negative factors, receivers, deadlines, defaults, order. Then every key of
+examples/van.toml left out or with a value that is odd there: it compiles to right tables, or it is refused, and never anything else. Needs no other program."""
+import copy
+import datetime
 import os
 import subprocess
 import sys
 import tempfile
+import tomllib
+from decimal import Decimal
 
 sys.dont_write_bytecode = True
 TOP = os.path.join(os.path.dirname(os.path.abspath(__file__)), "..")
 sys.path.insert(0, os.path.join(TOP, "tools"))
+from desk.c_header import c_header  # noqa: E402
+from desk.dbc import dbc  # noqa: E402
+from desk.merge import merged  # noqa: E402
 from desk.records import NONE, ipdu_records, object_records  # noqa: E402
-from desk.source import load  # noqa: E402
+from desk.report import report  # noqa: E402
+from desk.rules import first_fault  # noqa: E402
+from desk.rust_module import rust_module  # noqa: E402
+from desk.source import Source, load  # noqa: E402
 from desk.wrong import Wrong  # noqa: E402
 
 HEAD = 'tick_ms = 10\nnodes = ["van", "case"]\n'
@@ -189,6 +200,60 @@ def meanings(folder):
     check("a receiver of its own name replaces the plain one", [(o.ipdu, o.start, o.depth) for o in objects], [(0, 8, 3)])
 
 
+LEFT_OUT = object()
+ODD = [LEFT_OUT, True, -1, 0, 1, 255, 2**40, Decimal("2.5"), Decimal("nan"), Decimal("inf"), Decimal("1e25"), "", "van", "two\nlines", [], ["van"], [1], {},
+       {"van": 1}, {"case": {}}, {"algorithm": 3}, datetime.date(2026, 1, 1)]
+
+
+def paths(section, above=()):
+    """The keys of a file, each with the sections that it stands in."""
+    for key, value in section.items():
+        yield (*above, key)
+        if isinstance(value, dict):
+            yield from paths(value, (*above, key))
+
+
+def with_value(data, path, value):
+    changed = copy.deepcopy(data)
+    section = changed
+    for key in path[:-1]:
+        section = section[key]
+    section[path[-1]] = value
+    if value is LEFT_OUT:
+        del section[path[-1]]
+    return changed
+
+
+def compiled(data):
+    """All that is made of a file; the lines where it is refused."""
+    try:
+        network = Source("van.toml", *merged("van.toml", data)).network()
+        for board in network.boards():
+            if first_fault(board.table) is not None:
+                return ["a wrong table"]
+            for make in (c_header, rust_module, report):
+                make(board)
+        dbc(network)
+    except Wrong as error:
+        return [line for line in error.lines if not line.startswith("van.toml: ") or not line.isprintable()]
+    return None
+
+
+def odd_values():
+    """How many files are tried; an error of Python's own ends the test."""
+    with open(os.path.join(TOP, "examples", "van.toml"), encoding="utf-8") as file:
+        data = tomllib.loads(file.read(), parse_float=Decimal)
+    answers = []
+    for path in paths(data):
+        for value in ODD:
+            answers.append(compiled(with_value(data, path, value)))
+            if answers[-1]:
+                sys.exit(f"desk_toml.py: examples/van.toml with {'.'.join(path)} = {value!r}: {answers[-1]}")
+    if answers.count(None) < 200 or answers.count([]) < 2000:
+        sys.exit(f"desk_toml.py: of {len(answers)} changed files only {answers.count(None)} compile, {answers.count([])} are refused")
+    return len(answers)
+
+
 def program(folder):
     """The program says the same, a line each, with exit status 1; and 2 for wrong arguments."""
     path = os.path.join(folder, "van.toml")
@@ -207,7 +272,7 @@ def main():
         too_many(folder)
         meanings(folder)
         program(folder)
-    print(f"desk_toml.py: {len(REFUSED) + 3} wrong files get their lines")
+    print(f"desk_toml.py: {len(REFUSED) + 3} wrong files get their lines; {odd_values()} with an odd value compile or are refused")
 
 
 main()

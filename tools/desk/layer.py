@@ -5,6 +5,7 @@ import tempfile
 from dataclasses import dataclass
 
 from .progress import watched
+from .records import RECEIVE
 from .run import steps
 from .wrong import wrong
 
@@ -41,7 +42,7 @@ class Answers:
 
 def questions(board):
     """The lines that ask for all that is in Answers."""
-    unqueued = [entry.number for entry in board.objects if entry.record.kind == 2 and entry.record.depth == 0]
+    unqueued = [entry.number for entry in board.objects if entry.record.kind == RECEIVE and entry.record.depth == 0]
     return [f"marks {entry.number}" for entry in board.objects] + [f"receive {number}" for number in unqueued], unqueued
 
 

@@ -5,10 +5,8 @@ from typing import NamedTuple
 from . import bits
 from .records import SEND, WHOLE
 from .report_words import MARKS
-from .run import LIMIT
+from .run import ARRIVED, LIMIT
 from .timeline import Span
-
-ARRIVED = 1
 
 
 class Value(NamedTuple):

@@ -1,5 +1,5 @@
 """The bytes of a table, as docs/TABLE.md has them: a header, I-PDU records, object records. Nothing is judged here; rules.py does that."""
-from dataclasses import astuple, dataclass
+from dataclasses import dataclass
 from typing import NamedTuple
 
 HEADER_SIZE, IPDU_SIZE, OBJECT_SIZE = 16, 16, 32
@@ -78,7 +78,7 @@ class IpduRecord:
     first_deadline: int = 0
 
     def bytes(self):
-        return packed(IPDU, IPDU_SIZE, astuple(self))
+        return packed(IPDU, IPDU_SIZE, [getattr(self, field.name) for field in IPDU])
 
 
 @dataclass
@@ -99,7 +99,7 @@ class ObjectRecord:
     second: int = 0
 
     def bytes(self):
-        return packed(OBJECT, OBJECT_SIZE, astuple(self))
+        return packed(OBJECT, OBJECT_SIZE, [getattr(self, field.name) for field in OBJECT])
 
     @property
     def big(self):

@@ -2,7 +2,7 @@
 import re
 from html import escape
 
-from .run import LIMIT, NO_MESSAGE, duration
+from .run import ARRIVED, LIMIT, NO_MESSAGE, RECEIVE_ERROR, SEND_ERROR, SENT, duration
 
 # docs/SCRIPT.md's answers, those that refuse a call.
 REFUSALS = {
@@ -14,7 +14,7 @@ REFUSALS = {
     7: "the layer is stopped, or was not started yet",
     8: "a confirm with no request open",
 }
-MARKS = {1: "arrived", 2: "sent", 4: "receive error", 8: "send error"}
+MARKS = {ARRIVED: "arrived", SENT: "sent", RECEIVE_ERROR: "receive error", SEND_ERROR: "send error"}
 MOST_MILLISECONDS = 2000  # a longer journey is shown in seconds
 FORBIDDEN = re.compile("[^\t\n\r\x20-\x7e\xa0-\ud7ff\ue000-\ufffd\U00010000-\U0010ffff]")  # by XML or by HTML
 

@@ -9,6 +9,7 @@ NUMBERS = {"start": 0, "stop": 0, "send": 2, "initialise": 2, "receive": 1, "sta
 COMMAND = re.compile(r"([a-z_]+)((?: -?[0-9]+)*)(?: ([0-9A-F]+))?")
 ANSWER = re.compile(r"([0-9]+)(?: val (-?[0-9]+))?((?: req [0-9]+ [0-9A-F]+)*)")
 DONE, LIMIT, NO_MESSAGE, CANNOT_BE_READ = 0, 3, 4, 9
+ARRIVED, SENT, RECEIVE_ERROR, SEND_ERROR = 1, 2, 4, 8  # marks
 
 
 @dataclass

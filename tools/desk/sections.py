@@ -67,6 +67,11 @@ class Section:
     def table(self, key):
         return self.take(key, {}, lambda value: isinstance(value, dict), f"a section [{self.full(key)}.NAME]")
 
+    def inner(self, key):
+        """The section in this one; an empty one where there is none."""
+        data = self.take(key, {}, lambda value: isinstance(value, dict), f"a section [{self.full(key)}]")
+        return Section(self.origins.get(key, self.file), self.full(key), data)
+
     def number(self, key, default=NO_DEFAULT):
         value = self.take(key, default, is_number, "a number")
         return Decimal(value) if is_whole(value) else value

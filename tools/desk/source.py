@@ -55,7 +55,7 @@ class Source:
         self.tables = nodes
         self.known_nodes = list(dict.fromkeys(nodes + outside + self.known_nodes))
         self.check_names("nodes", self.known_nodes)
-        defaults = Section(self.file, "defaults", top.table("defaults"))
+        defaults = top.inner("defaults")
         self.deadline = defaults.ticks("deadline_ms", self.tick, None, 1) if defaults.has("deadline_ms") else None
         defaults.finish()
         for kind, read in (("ipdu", self.ipdu), ("message", self.message)):
@@ -112,16 +112,16 @@ class Source:
         if ipdu.sender is not None:
             self.node(section, "sender", ipdu.sender)
             self.sending(ipdu, section, ipdu.sender in self.tables)
-        deadlines = section.table("receiver")
-        receivers = section.names("receivers", list(dict.fromkeys(self.wanted_receivers(name, ipdu.sender) + list(deadlines))))
+        deadlines = section.inner("receiver")
+        receivers = section.names("receivers", list(dict.fromkeys(self.wanted_receivers(name, ipdu.sender) + list(deadlines.data))))
         for node in receivers:
             self.node(section, "receivers", node)
             if node == ipdu.sender:
                 raise section.wrong("receivers", f"\"{node}\" is its sender; a receiver inside is a message with receives = ..")
             ipdu.receivers[node] = (0, 0)
-        for node, data in deadlines.items():
+        for node in deadlines.data:
             section.known("receiver", node, receivers, "receiver")
-            ipdu.receivers[node] = self.receiving(Section(self.file, f"{section.path}.receiver.{node}", data))
+            ipdu.receivers[node] = self.receiving(deadlines.inner(node))
         for other in self.ipdus.values():
             if ipdu.identifier is not None and (other.identifier, other.extended) == (ipdu.identifier, ipdu.extended):
                 raise section.wrong("id", f"0x{ipdu.identifier:X} is the identifier of {other.name} too")
@@ -228,11 +228,11 @@ class Source:
         nodes = section.names("receivers", list(ipdu.receivers))
         for node in nodes:
             section.known("receivers", node, ipdu.receivers, f"receiver of {ipdu.name} with the name")
-        given = section.table("receiver")
-        for node in given:
+        given = section.inner("receiver")
+        for node in given.data:
             section.known("receiver", node, nodes, "receiver")
         for node in nodes:
-            inner = Section(self.file, f"{section.path}.receiver.{node}", given.get(node, {}))
+            inner = given.inner(node)
             message.receivers[node] = self.receiver(message, inner)
             inner.finish()
 

@@ -7,14 +7,12 @@ from dataclasses import dataclass, field
 
 from . import bits
 from .records import NONE, RECEIVE, SEND, WHOLE
-from .run import duration
+from .run import ARRIVED, RECEIVE_ERROR, SEND_ERROR, SENT, duration
 from .run_log import microseconds
-from .sheet import RECEIVE_ERROR
 from .timeline import lanes
 
 PULSE, APART = 1, 2  # in microseconds
 SIZES = {"wire": 1, "integer": 32, "real": 64}
-ARRIVED, SENT, SEND_ERROR = 1, 2, 8  # marks
 MARKS = {RECEIVE: {"arrived": ARRIVED, "receive_error": RECEIVE_ERROR}, SEND: {"sent": SENT, "send_error": SEND_ERROR}}
 EVENTS = {RECEIVE: ["indication", "error", "deadline"], SEND: ["request", "confirm", "no_confirm", "deadline"]}
 SPANS = {RECEIVE: {"watched": "watched"}, SEND: {"open": "open", "delay": "delays"}}  # of each what a Lane calls it

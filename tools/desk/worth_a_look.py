@@ -3,7 +3,7 @@ from . import bits
 from .network import FILTERS
 from .records import MIXED, PERIODIC, RECEIVE, SEND, WHOLE
 from .steps import raw_ends
-from .words import counted, one_line
+from .words import counted, joined, one_line
 
 NEVER = next(number for number, (name, _) in enumerate(FILTERS) if name == "Never")
 
@@ -41,7 +41,7 @@ def shared(carried):
     for place, names in sorted(owners.items()):
         if len(names) > 1:
             groups.setdefault(tuple(names.values()), []).append(place)
-    return [f"{', '.join(names[:-1])} and {names[-1]} share bit{'s' * (len(places) > 1)} {', '.join(map(str, places))}" for names, places in groups.items()]
+    return [f"{joined(names)} share bit{'s' * (len(places) > 1)} {', '.join(map(str, places))}" for names, places in groups.items()]
 
 
 def object_reasons(board, entry):

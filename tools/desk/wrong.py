@@ -11,7 +11,9 @@ class Wrong(Exception):
 
 
 def line(file, key, reason):
-    return f"{file}: {key}: {reason}" if key else f"{file}: {reason}"
+    """One line, whatever the names and texts in it hold."""
+    text = f"{file}: {key}: {reason}" if key else f"{file}: {reason}"
+    return "".join(letter if letter.isprintable() else "?" for letter in text)
 
 
 def wrong(file, key, reason):
