@@ -16,8 +16,7 @@ CROWDED, BIN = 10.0, 3.0  # with fewer pixels for each, marks of a kind are draw
 THIN = 1.0  # spans and changes nearer than this are drawn as one
 
 ENDED = {"confirm": "confirmed", "no_confirm": "not sent", "deadline": "deadline missed", "start": "ended by a start", "end": "open at the end"}
-DELAYED = {"passed": "passed", "confirm": "begun anew by a confirm", "deadline": "ended by a deadline", "start": "ended by a start",
-           "end": "runs at the end"}
+DELAYED = {"passed": "passed", "start": "ended by a start", "end": "runs at the end"}
 WATCHED = {"indication": "in time", "deadline": "deadline missed", "start": "ended by a start", "end": "waits at the end"}
 EVENTS = {"request": "request", "confirm": "good confirm", "no_confirm": "confirm, not sent", "indication": "good indication",
           "error": "indication, not good", "deadline": "missed deadline"}
