@@ -105,6 +105,11 @@ REFUSED = [
     (WHOLE + 'receivers = ["van"]\n', ['message.M.receivers: there is no receiver of F with the name "van"']),
     (WHOLE + "receiver.case = { queue_size = 17 }\n", ["message.M.receiver.case.queue_size: is 17, has to be 0 to 16"]),
     (WHOLE + 'receiver.van = { queue_size = 1 }\n', ['message.M.receiver: there is no receiver "van"']),
+    (WHOLE + 'multiplexor = "X"\n', ['message.M.multiplexor: there is no message "X"']),
+    (WHOLE + FREE + 'multiplexor = "M"\n', ["message.N.multiplexor: M has to lie in the same I-PDU and to have no multiplexor itself"]),
+    (WHOLE + MESSAGE.replace("M]", "O]") + 'multiplexor = "M"\n', ["message.O.multiplexor_value: is missing; it has to be a whole number"]),
+    (WHOLE + MESSAGE.replace("M]", "O]") + 'multiplexor = "M"\nmultiplexor_value = 256\n', ["message.O.multiplexor_value: is 256, has to be 0 to 255"]),
+    (WHOLE + "multiplexor_value = 1\n", ["message.M.multiplexor: is missing; it has to be a text in quotes"]),
     (WHOLE + '[message.D]\nreceives = "X"\n', ['message.D.receives: there is no message "X"']),
     (WHOLE + '[message.D]\nreceives = "M"\nnode = "rack"\n', ['message.D.node: there is no node "rack"']),
     ('outside = ["rack"]\n' + WHOLE + '[message.D]\nreceives = "M"\nnode = "rack"\n', ['message.D.node: "rack" neither sends nor receives M']),
@@ -193,6 +198,10 @@ def meanings(folder):
     check("a tick of 2.5 ms", ipdus[0].deadline, 40)
     ipdus, objects = records(WHOLE + 'receivers = []\n', folder, "case")
     check("a message that nobody receives", (len(ipdus), len(objects)), (1, 0))
+    shared = MESSAGE.replace("M]", "L]") + 'multiplexor = "M"\nmultiplexor_value = 3\n'
+    late = described(HEAD + IPDU + shared + MESSAGE.replace("= 8\nsize", "= 0\nsize") + '[message.S]\nreceives = "L"\nnode = "case"\n', folder).messages
+    check("a multiplexed message", [(each.name, each.multiplexor and each.multiplexor.name, each.is_in(b"\3..."), each.is_in(b"\4...")) for each in late],
+          [("L", "M", True, False), ("M", None, True, True), ("S", "M", True, False)])
     inside = WHOLE + '[message.D]\nreceives = "M"\n[message.S]\nreceives = "M"\nnode = "case"\nqueue_size = 3\n'
     _, objects = records(inside, folder, "van")
     check("a receiver inside", [(o.kind, o.ipdu, o.sender, o.bits) for o in objects], [(1, 0, NONE, 8), (2, NONE, 0, 32)])

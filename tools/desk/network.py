@@ -111,7 +111,8 @@ class Receiving:
 
 @dataclass
 class Message:
-    """A message of the network, sent by its I-PDU's sender and received by `receivers`; or, where `node` is given, an object of that node alone."""
+    """A message of the network, sent by its I-PDU's sender and received by `receivers`; or, where `node` is given, an object of that node alone. One with a
+    multiplexor is in a frame only while that has the value; to the layer it is a message that shares bits."""
 
     name: str
     ipdu: Ipdu | None = None
@@ -130,6 +131,8 @@ class Message:
     node: str | None = None
     kind: int = SEND
     receives: "Message | None" = None
+    multiplexor: "Message | None" = None
+    multiplexor_value: int = 0
     comment: str = ""
 
     def sender(self):
@@ -139,8 +142,12 @@ class Message:
         return self.start, self.bits, self.big
 
     def in_frame(self, frame):
-        """The raw value that a frame of its I-PDU holds."""
+        """The raw value that a frame of its I-PDU has at its bits."""
         return bits.unpacked(frame, self.start, self.bits, self.big, self.signed)
+
+    def is_in(self, frame):
+        """Whether a frame holds it: its multiplexor, where it has one, says so."""
+        return self.multiplexor is None or self.multiplexor.in_frame(frame) == self.multiplexor_value
 
 
 @dataclass

@@ -24,9 +24,10 @@ def load(path):
     return Source(path, *merged(path, data)).network()
 
 
-def receives(section):
-    """Whether a section names another message: those are read after the others, wherever they stand."""
-    return isinstance(section[1], dict) and "receives" in section[1]
+def reads_later(section):
+    """Sections that name another message are read after it, wherever they stand: those with a multiplexor, then those that receive one."""
+    data = section[1] if isinstance(section[1], dict) else {}
+    return ("receives" in data, "multiplexor" in data)
 
 
 class Skipped(Exception):
@@ -61,7 +62,7 @@ class Source:
         for kind, read in (("ipdu", self.ipdu), ("message", self.message)):
             sections = top.table(kind)
             self.check_names(kind, sections)
-            for name, data in sorted(sections.items(), key=receives):
+            for name, data in sorted(sections.items(), key=reads_later):
                 self.section(kind, name, data, read)
         top.finish()
         if self.problems:
@@ -177,6 +178,8 @@ class Source:
                 message.depth = section.whole("queue_size", 0, MOST_DEPTH, 0)
             if message.node is None:
                 self.receivers(message, section)
+            if section.has("multiplexor") or section.has("multiplexor_value"):
+                self.multiplexed(message, section)
         self.messages[name] = message
 
     def own_place(self, message, section):
@@ -242,6 +245,13 @@ class Source:
                          section.value("initial_value", message.scaling, message.bits, message.signed, message.initial),
                          section.whole("queue_size", 0, MOST_DEPTH, 0))
 
+    def multiplexed(self, message, section):
+        """The message of the same I-PDU whose value says whether a frame holds this one."""
+        of = message.multiplexor = self.referred(section, "multiplexor", "message", self.messages)
+        if of.ipdu is not message.ipdu or of.ipdu is None or of.multiplexor is not None:
+            raise section.wrong("multiplexor", f"{of.name} has to lie in the same I-PDU and to have no multiplexor itself")
+        message.multiplexor_value = section.whole("multiplexor_value", bits.least(of.bits, of.signed), bits.greatest(of.bits, of.signed))
+
     def second_receiver(self, message, section):
         """A receive object for a message that another section describes: inside its sender, or beside the one of a receiver."""
         of = self.referred(section, "receives", "message", self.messages)
@@ -254,6 +264,7 @@ class Source:
             raise section.wrong("node", f"\"{node}\" neither sends nor receives {of.name}")
         message.kind, message.node, message.receives, message.ipdu = RECEIVE, node, of, None if inside else of.ipdu
         message.scaling, message.minimum, message.maximum = of.scaling, of.minimum, of.maximum
+        message.multiplexor, message.multiplexor_value = (None, 0) if inside else (of.multiplexor, of.multiplexor_value)
         message.signed = section.flag("signed", of.signed)
         if not inside:
             message.start, message.bits, message.big = of.placed()
