@@ -86,7 +86,8 @@ def wrong_uses(folder):
     """Arguments, the status, and what the last line of standard error is or, where it ends in .., begins with."""
     with open(os.path.join(folder, "short.table"), "wb") as file:
         file.write(b"\1\0")
-    for name, text in (("bad.log", "(1.0) can0 120#0\n"), ("bad.script", "start\njump\n"), ("bytes", "\udcff"), ("other.stdout", "0\n")):
+    for name, text in (("bad.log", "(1.0) can0 120#0\n"), ("bad.script", "start\njump\n"), ("bytes", "\udcff"), ("other.stdout", "0\n"),
+                       ("two.log", "(1.0) can0 200#00000000\n(2.0) vcan1 200#00000000\n")):
         with open(os.path.join(folder, name), "w", encoding="utf-8", errors="surrogateescape") as file:
             file.write(text)
     van = "examples/van.toml"
@@ -112,6 +113,13 @@ def wrong_uses(folder):
         (["tools/journey", "log", van, "examples/van.script", "other.stdout"], 1,
          "journey: other.stdout: has 1 answers, and examples/van.script has 127 calls: they are not of one run"),
         (["tools/journey", "vcd", van, "examples/van.script", "--out", "bytes/x"], 1, "journey: bytes/x: can't be written: File exists"),
+        (["tools/journey", "svg", van, "bad.log"], 1, "journey: bad.log: line 1: can't be read, and the run ends there: '(1.0) can0 120#0'"),
+        (["tools/journey", "svg", van, "bad.script", "--out", "bad.script"], 1, "journey: bad.script: is what is read, and would be written over"),
+        (["tools/journey", "svg", van, "examples/van.script", "--drive", "/bin/cat"], 1, "journey: what drive prints: line 1: is no line that drive prints: .."),
+        (["tools/journey", "script", van, "two.log"], 1, "journey: two.log: has frames of can0 and vcan1: --interface says of which the script is to be"),
+        (["tools/journey", "script", van, "two.log", "--interface", "can7"], 1, "journey: two.log: has no frame of can7, only of can0 and vcan1"),
+        (["tools/table", "explain", van], 1, "table: examples/van.toml: is no table but a text: no byte of it is 0; `table compile` makes tables of a TOML file"),
+        (["tools/table", "show", "bad.script"], 1, "table: bad.script: is no table but a text: no byte of it is 0; `table compile` makes tables of a TOML file"),
         (["tools/journey", "report", van, "bytes"], 1, "journey: bytes: is no text: byte 0 is not UTF-8"),
     ]
 
@@ -147,7 +155,7 @@ def ended(folder):
     """A script with a line that can't be read is shown up to there, and the line is named."""
     for command in ("log", "svg", "vcd", "report"):
         said = run(folder, "tools/journey", command, "examples/van.toml", "bad.script")
-        if (said.returncode, said.stderr) != (0, "journey: bad.script: line 2: can't be read, and the run ends there\n"):
+        if not said.stdout or (said.returncode, said.stderr) != (1, "journey: bad.script: line 2: can't be read, and the run ends there: 'jump'\n"):
             fail(f"tools/journey {command} of a script whose second line can't be read ends with {said.returncode} and says {said.stderr!r}")
 
 

@@ -59,7 +59,7 @@ def random_log(network, count):
     return frames
 
 
-def expected(board, marked, own):
+def expected(board, marked):
     """What the summary should count, and the frames that should be in the run's log."""
     counts, good = {}, []
     numbers = {ipdu.identifier: number for number, ipdu in enumerate(board.ipdus)}
@@ -72,7 +72,7 @@ def expected(board, marked, own):
         elif number is None:
             name = "others"
         elif board.ipdus[number].sender == board.node:
-            name = "confirmed" if own else "own"
+            name = "own"
         else:
             name = "other_length" if kind == "length" else "indicated"
             good += [frame] if kind != "length" else []
@@ -80,11 +80,11 @@ def expected(board, marked, own):
     return counts, good
 
 
-def check_log(board, count, own, drain_ms, met):
+def check_log(board, count, drain_ms, met):
     """A random log as a script of a node, and back."""
     marked = random_log(board.network, count)
-    script, summary = log_script.script(board, [frame for frame, _ in marked], own=own, drain_ms=drain_ms)
-    counts, good = expected(board, marked, own)
+    script, summary = log_script.script(board, [frame for frame, _ in marked], drain_ms=drain_ms)
+    counts, good = expected(board, marked)
     found = {name: getattr(summary, name) for name in summary.words if getattr(summary, name)}
     if found != counts or summary.frames() != count or summary.ticks != script.count("tick\n"):
         fail(f"the summary has {found}, should be {counts}; {summary.ticks} ticks; script {script!r}")
@@ -95,7 +95,6 @@ def check_log(board, count, own, drain_ms, met):
     check_drains(board, made, drain_ms)
     met.update({f"log {name}": number for name, number in counts.items()})
     met["log drains"] += summary.drains
-    met["log confirms answered 0"] += sum(step.call == "confirm" and step.is_done for step in made)
 
 
 def check_run_log(board, script):

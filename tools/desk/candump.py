@@ -4,6 +4,7 @@ from decimal import Decimal
 from typing import NamedTuple
 
 from .progress import watched
+from .words import joined
 from .wrong import read_text, wrong
 
 DATA, REMOTE, ERROR, FD, XL = KINDS = "data", "remote", "error", "fd", "xl"
@@ -54,6 +55,16 @@ def read(path):
         last = frame.time
         frames.append(frame)
     return frames
+
+
+def of_interface(path, frames, interface):
+    """The frames of one interface: of the one that is named, else of the only one that the log has."""
+    names = list(dict.fromkeys(frame.interface for frame in frames))
+    if interface is None and len(names) > 1:
+        raise wrong(path, "", f"has frames of {joined(names)}: --interface says of which the script is to be")
+    if interface is not None and interface not in names:
+        raise wrong(path, "", f"has no frame of {interface}, only of {joined(names)}" if names else "has no frame")
+    return [frame for frame in frames if interface in (None, frame.interface)]
 
 
 def frame_of(text):

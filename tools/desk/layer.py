@@ -23,7 +23,7 @@ def drive(program, table, script):
             with open(name, "wb") as file:
                 file.write(data)
         try:
-            with subprocess.Popen([os.path.abspath(program), *names], stdout=subprocess.PIPE, encoding="utf-8") as process:
+            with subprocess.Popen([os.path.abspath(program), *names], stdout=subprocess.PIPE, encoding="utf-8", errors="replace") as process:
                 printed = "".join(watched(process.stdout, "calls made", script.count("\n")))
         except OSError as error:
             raise wrong(program, "", f"fails: {error.strerror}") from None

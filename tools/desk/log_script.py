@@ -20,7 +20,6 @@ class Summary:
     drains: int = 0
     indicated: int = 0
     other_length: int = 0
-    confirmed: int = 0
     own: int = 0
     others: int = 0
     unknown: int = 0
@@ -32,7 +31,7 @@ class Summary:
 
     words = {
         "indicated": "indicated", "other_length": "indicated with another length than the I-PDU's: the layer refuses them with 2",
-        "confirmed": "of the node itself: they confirm its requests", "own": "of the node itself: left out",
+        "own": "of the node itself: left out",
         "others": "of the network, neither sent nor received by the node: left out", "unknown": "with an identifier that the network does not have: left out",
         "remote": "remote: left out", "error": "error frames: left out", "fd": "CAN FD: left out", "xl": "CAN XL: left out",
         "earlier": "before the beginning: left out",
@@ -53,8 +52,8 @@ class Summary:
 class Maker:
     """Makes the parts of a script in order: texts of whole lines."""
 
-    def __init__(self, board, begin, own, drain_ms):
-        self.board, self.begin, self.own = board, begin, own
+    def __init__(self, board, begin, drain_ms):
+        self.board, self.begin = board, begin
         self.drain_ticks = None if drain_ms is None else ticks_of_drain(board, drain_ms)
         self.numbers = {(ipdu.identifier, ipdu.extended): number for number, ipdu in enumerate(board.ipdus) if ipdu.identifier is not None}
         self.known = {(ipdu.identifier, ipdu.extended) for ipdu in board.network.ipdus}
@@ -63,7 +62,7 @@ class Maker:
         self.summary = Summary()
 
     def parts(self, frames):
-        yield "start\n" + ("start_periodic\n" if self.own else "")
+        yield "start\n"
         for frame in frames:
             if self.begin is None:
                 self.begin = frame.time
@@ -100,7 +99,7 @@ class Maker:
         if number is None:
             return self.counted("others" if key in self.known else "unknown")
         if self.board.ipdu_records[number].direction == SEND:
-            return self.counted("confirmed", f"confirm {number} 1\n") if self.own else self.counted("own")
+            return self.counted("own")
         for queue, ipdu in self.queued.items():
             self.arrivals[queue] += ipdu == number
         right = len(frame.data) == self.board.ipdus[number].length
@@ -132,8 +131,8 @@ def ticks_of_drain(board, drain_ms):
     return int(ticks)
 
 
-def script(board, frames, begin=None, own=False, drain_ms=None):
-    """The script of a node for a log, and its Summary. Time begins with the first frame, or at `begin`, in seconds. With `own` the periods run, and the frames
-    of this node in the log confirm its requests. With `drain_ms` all queues are drained every so many ms and at the end."""
-    maker = Maker(board, begin, own, drain_ms)
+def script(board, frames, begin=None, drain_ms=None):
+    """The script of a node for a log, and its Summary. Time begins with the first frame, or at `begin`, in seconds. With `drain_ms` all queues are drained every
+    so many ms and at the end."""
+    maker = Maker(board, begin, drain_ms)
     return "".join(maker.parts(frames)), maker.summary

@@ -19,7 +19,7 @@ def merged(path, data):
             raise top.wrong("leave_out", "is for what a database has, and there is no database")
         return data, {}, [], {}
     from .database import read
-    file = os.path.join(os.path.dirname(path), database)
+    file = database_file(path, database)
     below = read(file)
     data, left_out = with_own_names(top, below), [own_name(below, name) for name in left_out]
     nodes = top.names("nodes", below["nodes"])
@@ -46,6 +46,11 @@ def merged(path, data):
             origins[kind, name] = dict.fromkeys(given, file)
             refused[kind, name] = [line(file, f"{kind}.{name}.{key}".rstrip("."), reason) for key, reason in reasons.items() if key not in hidden]
     return both, origins, below["nodes"], refused
+
+
+def database_file(path, name):
+    """A database's file, which a TOML names beside itself."""
+    return os.path.join(os.path.dirname(path), name)
 
 
 def has_receivers(section):

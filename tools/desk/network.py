@@ -225,7 +225,7 @@ class Board:
 
 @dataclass
 class Network:
-    """A tick lasts `tick` milliseconds."""
+    """A tick lasts `tick` milliseconds. `sources` are the files that it was read from."""
 
     title: str
     file: str
@@ -234,6 +234,7 @@ class Network:
     outside: list
     ipdus: list
     messages: list
+    sources: list = field(default_factory=list)
 
     def boards(self):
         return [Board(self, node) for node in self.nodes]

@@ -5,7 +5,7 @@ import tomllib
 from decimal import Decimal
 
 from . import bits
-from .merge import merged
+from .merge import database_file, merged
 from .network import MIXED, MODES, PERIODIC, TRANSFERS, Ipdu, Message, Network, Receiving, Scaling
 from .records import MOST_BITS, MOST_DEPTH, MOST_DEPTHS, MOST_IPDUS, MOST_LENGTH, MOST_OBJECTS, RECEIVE, SEND
 from .sections import NO_DEFAULT, Section
@@ -21,7 +21,9 @@ def load(path):
         data = tomllib.loads(read_text(path), parse_float=Decimal)
     except tomllib.TOMLDecodeError as error:
         raise wrong(path, "", f"is no TOML: {error}") from None
-    return Source(path, *merged(path, data)).network()
+    network = Source(path, *merged(path, data)).network()
+    network.sources = [path, *([database_file(path, data["database"])] if "database" in data else [])]
+    return network
 
 
 def reads_later(section):

@@ -30,7 +30,7 @@ def read_bytes(path):
 
 def read_text(path):
     try:
-        return read_bytes(path).decode()
+        return read_bytes(path).decode("utf-8-sig")
     except UnicodeDecodeError as error:
         raise wrong(path, "", f"is no text: byte {error.start} is not UTF-8") from None
 
