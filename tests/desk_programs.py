@@ -115,7 +115,7 @@ def wrong_uses(folder):
         (["tools/journey", "vcd", van, "examples/van.script", "--out", "bytes/x"], 1, "journey: bytes/x: can't be written: File exists"),
         (["tools/journey", "svg", van, "bad.log"], 1, "journey: bad.log: line 1: can't be read, and the run ends there: '(1.0) can0 120#0'"),
         (["tools/journey", "svg", van, "bad.script", "--out", "bad.script"], 1, "journey: bad.script: is what is read, and would be written over"),
-        (["tools/journey", "svg", van, "examples/van.script", "--drive", "/bin/cat"], 1, "journey: what drive prints: line 1: is no line that drive prints: .."),
+        (["tools/journey", "svg", van, "examples/van.script", "--drive", "/bin/cat"], 1, "journey: what drive prints: has .."),
         (["tools/journey", "script", van, "two.log"], 1, "journey: two.log: has frames of can0 and vcan1: --interface says of which the script is to be"),
         (["tools/journey", "script", van, "two.log", "--interface", "can7"], 1, "journey: two.log: has no frame of can7, only of can0 and vcan1"),
         (["tools/table", "explain", van], 1, "table: examples/van.toml: is no table but a text: no byte of it is 0; `table compile` makes tables of a TOML file"),
