@@ -100,6 +100,7 @@ REFUSED = [
     (WHOLE + 'factor = -1\nfilter = "F_NewIsLess"\n',
      ["message.M.filter.algorithm: NewIsLess compares what is stored, and with a factor below 0 that falls where the reading rises"]),
     (WHOLE + 'filter = { algorithm = "NewIsWithin", min = -1, max = 3 }\n', ["message.M.filter.min: -1 is stored as -1, has to be 0 to 4294967295"]),
+    (WHOLE + 'filter = { algorithm = "NewIsWithin", min = 1, max_raw = 3 }\n', ["message.M.filter.min: and max have to be both in units, or both raw"]),
     (WHOLE + 'transfer_property = "now"\n', ['message.M.transfer_property: is "now", has to be one of triggered, pending']),
     (WHOLE + "queue_size = 3\n", ["message.M.queue_size: is not known here; known are "]),
     (WHOLE + 'receivers = ["van"]\n', ['message.M.receivers: there is no receiver of F with the name "van"']),
@@ -180,6 +181,8 @@ def meanings(folder):
     ipdus, objects = records(WHOLE + scaled + 'receiver.case = { queue_size = 2, initial_value = 98 }\n', folder, "van")
     check("a value with a factor below 0", objects[0].initial, 1)
     check("a range with a factor below 0", (objects[0].first, objects[0].second), (2, 20))
+    _, objects = records(WHOLE + 'factor = -2\nfilter = { algorithm = "NewIsWithin", min_raw = 3, max_raw = 9 }\n', folder, "van")
+    check("a raw range with a factor below 0", (objects[0].first, objects[0].second), (3, 9))
     _, objects = records(WHOLE + scaled + 'receiver.case = { queue_size = 2, initial_value = 98 }\n', folder, "case")
     check("the receiver's own", (objects[0].depth, objects[0].initial, objects[0].filter), (2, 4, 0))
     _, objects = records(WHOLE + scaled, folder, "case")

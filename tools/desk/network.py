@@ -196,7 +196,7 @@ class Board:
         of = message.receives or message
         inside = message.receives is not None and of.sender() == self.node
         record = ObjectRecord(kind, filter=has.filter.number, initial=has.initial, first=has.filter.first, second=has.filter.second,
-                              depth=has.depth if kind == RECEIVE else 0, transfer=message.transfer if kind == SEND else TRIGGERED)
+                              depth=has.depth, transfer=message.transfer if kind == SEND else TRIGGERED)
         record.order = SIGNED if message.signed else 0
         if inside:
             record.sender = numbers[id(of)]

@@ -163,7 +163,9 @@ class Section:
         words = {constant: inner.constant(constant, scaling, signed) for constant in constants}
         if name == "OneEveryN" and not words["offset"] < words["period"] <= 255:
             raise inner.wrong("period", f"is {words['period']} with offset {words['offset']}: a period is 1 to 255, and the offset below it")
-        if "min" in words and scaling.factor < 0 and "min" in given:
+        if len({"min_raw", "max_raw"} & set(given)) == 1:
+            raise inner.wrong("min", "and max have to be both in units, or both raw")
+        if "min" in given and scaling.factor < 0:
             words["min"], words["max"] = words["max"], words["min"]
         if name in ("NewIsGreater", "NewIsLessOrEqual", "NewIsLess", "NewIsGreaterOrEqual") and scaling.factor < 0:
             raise inner.wrong("algorithm", f"{name} compares what is stored, and with a factor below 0 that falls where the reading rises")
