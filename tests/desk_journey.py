@@ -20,7 +20,7 @@ from desk.layer import DRIVE
 from journey_boards import example_boards, random_network, van
 from journey_check import fail, same
 from journey_lanes import check_lanes, random_script
-from journey_sheet import check_sheet
+from journey_sheet import check_errors, check_sheet
 from journey_vcd import check_crowded, check_names, check_vcd
 
 NETWORKS = 40
@@ -55,6 +55,7 @@ def bus(library, met):
         for board in journey_bus.boards_with_others():
             journey_bus.check_log(board, 400, drain_ms, met)
     journey_bus.check_earlier()
+    check_errors(van().boards()[0])
     journey_bus.check_wrong_uses()
     journey_bus.check_days()
     journey_bus.check_crowded_log()

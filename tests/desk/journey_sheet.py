@@ -89,3 +89,16 @@ def check_sheet(library, board, drains, met):
     met["errors"] += sum(row.errors for row in sheet(board, made))
     met["values below 0"] += sum(row.least is not None and row.least < 0 for row in sheet(board, made))
     met["rows with nothing"] += sum(row.first is None for row in sheet(board, made[:journey.drained[0][0]]))
+
+
+def check_errors(board):
+    """An error is counted where it was seen and cleared, once: not where the marks are cleared unseen or again, nor where they are only read."""
+    number = next(entry.number for entry in board.objects if entry.record.kind == RECEIVE and entry.record.depth)
+    bad = f"indication {board.objects[number].record.ipdu} 0\n"
+    seen, cleared, stopped = f"marks {number}\n", f"clear_marks {number}\n", "stop\n"
+    for script, count in [(bad + seen + cleared + cleared, 1), (bad + cleared, 0), (bad + seen + seen, 0), (2 * (bad + seen + cleared), 2), (seen + cleared, 0),
+                          (bad + seen + stopped + cleared, 0)]:
+        made = steps("start\n" + script, "script", drive(DRIVE, board.table, "start\n" + script), "drive")
+        found = next(row.errors for row in sheet(board, made) if row.entry.number == number)
+        if found != count:
+            fail(f"the sheet of {script!r} counts {found} errors, should be {count}")
