@@ -40,7 +40,7 @@ def merged(path, data):
                 hidden |= SENDING
             if given.get("receivers") == [] and has_receivers(data["ipdu"].get(given["ipdu"])):
                 hidden |= {"receivers"}
-            reasons = given.get("refused", {})
+            reasons = {**given.get("refused", {}), **lost_multiplexor(given, left_out)}
             given = {key: value for key, value in given.items() if key not in hidden and key != "refused"}
             both[kind][name] = {**given, **over}
             origins[kind, name] = dict.fromkeys(given, file)
@@ -58,6 +58,12 @@ def has_receivers(section):
     return isinstance(section, dict) and "receivers" in section
 
 
+def lost_multiplexor(section, left_out):
+    """Why a message can't stay whose multiplexor the TOML leaves out; nothing where it can."""
+    name = section.get("multiplexor")
+    return {"multiplexor": f"{name} is left out, and a frame holds this one only while {name} is {section['multiplexor_value']}"} if name in left_out else {}
+
+
 def own_name(below, name):
     """The database's name of a message that the TOML calls FRAME.SIGNAL."""
     frame, _, signal = name.partition(".")
@@ -71,8 +77,9 @@ def with_own_names(top, below):
         name = own_name(below, written)
         if name in messages:
             raise top.wrong(f"message.{written}", f"is {name}, which has a section already")
-        if isinstance(section, dict) and isinstance(section.get("receives"), str):
-            section = dict(section, receives=own_name(below, section["receives"]))
+        if isinstance(section, dict):
+            named = {key: own_name(below, section[key]) for key in ("receives", "multiplexor") if isinstance(section.get(key), str)}
+            section = {**section, **named}
         messages[name] = section
     return dict(top.data, ipdu=sections["ipdu"], message=messages)
 
