@@ -166,8 +166,9 @@ def carried(network):
     for message in network.messages:
         if message.ipdu is not None and message.sender() is not None:
             on_change = message.filter.name == "NewIsDifferent" and message.transfer == TRIGGERED
+            multiplexor = message.multiplexor and (short(message.multiplexor.name), message.multiplexor_value)
             messages[message.ipdu.name, short(message.name)] = (message.placed(), message.signed, message.scaling, message.transfer, message.initial, on_change,
-                                                                list(message.receivers))
+                                                                list(message.receivers), multiplexor)
     return ipdus, messages
 
 
@@ -211,7 +212,8 @@ def test_back(folder):
             sys.exit(f"desk_database.py: network {number}: {error}\n{toml}")
         met |= {(ipdu.mode, ipdu.extended, network.tick < 1) for ipdu in network.ipdus}
         met |= {(message.big, message.signed, message.transfer, message.node is None) for message in network.messages}
-    same("kinds of I-PDUs and messages in random networks", len(met), 3 * 2 * 2 + 2 * 2 * 2 * 2)
+        met |= {(message.multiplexor is not None, message.node is None) for message in network.messages}
+    same("kinds of I-PDUs and messages in random networks", len(met), 3 * 2 * 2 + 2 * 2 * 2 * 2 + 2 * 2)
     for what, toml, expected in cases.NOT_WRITTEN:
         same(what, folder.refusal(lambda: dbc(load(folder.file("a.toml", toml)))), [expected])
     return count

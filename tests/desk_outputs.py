@@ -25,10 +25,11 @@ from desk.records import RECEIVE, SIGNED, ObjectRecord  # noqa: E402
 from desk.report import report  # noqa: E402
 from desk.rust_module import rust_module  # noqa: E402
 from desk.source import load  # noqa: E402
+from desk.words import lies  # noqa: E402
 from desk.worth_a_look import can_pass, worth_a_look  # noqa: E402
 from desk.wrong import Wrong  # noqa: E402
 from expected import NAMES, Expected  # noqa: E402
-from outputs_texts import BARE, ODD, REFUSED, WARNED, WARNINGS, refused_text  # noqa: E402
+from outputs_texts import BARE, KINDS, ODD, REFUSED, WARNED, WARNINGS, refused_text  # noqa: E402
 
 WARNINGS_ON = ["-Wall", "-Wextra", "-Wpedantic", "-Wconversion", "-Wsign-conversion", "-Werror"]
 LANGUAGES = {"gcc": ["gcc", "-std=c99", *WARNINGS_ON, "-x", "c"], "g++": ["g++", "-std=c++17", *WARNINGS_ON, "-Wold-style-cast", "-x", "c++"]}
@@ -278,6 +279,9 @@ def check_reports(folder, boards):
     found = {board.node: worth_a_look(board) for board in warned}
     if found != WARNINGS:
         fail(f"worth a look are {found}")
+    multiplexed = {board.node: sorted({words for entry in board.objects if " while " in (words := lies(board, entry))}) for board in warned}
+    if multiplexed != KINDS:
+        fail(f"the kinds of multiplexed messages are {multiplexed}")
 
 
 def passes(chosen, new, old):

@@ -82,6 +82,8 @@ def with_send_type(word):
 
 TIMES = [line for name, time in (("Cycle", 10), ("StartDelay", 20), ("Delay", 30))
          for line in (f'BA_DEF_ BO_ "GenMsg{name}Time" INT 0 100;', f'BA_ "GenMsg{name}Time" BO_ 100 {time};')]
+NO_MULTIPLEXOR = {"multiplexor": None, "multiplexor_value": None}
+PAGES = [FRAME, ' SG_ Mux M : 0|4@1+ (1,0) [0|0] "" CASE', ' SG_ Signal m3 : 8|8@1+ (1,0) [0|0] "" CASE', ' SG_ Rain m4 : 8|8@1+ (1,0) [0|0] "" CASE']
 START = 'BA_DEF_ SG_ "GenSigStartValue" FLOAT 0 0;'
 READINGS = [
     ("the least", [FRAME, SIGNAL],
@@ -119,12 +121,13 @@ READINGS = [
                      'BA_ "SystemSignalLongSymbol" SG_ 100 S "Signal";'], {"id": 100}, {"ipdu": "Frame"}),
     ("a send type with no definition", [FRAME, SIGNAL, 'BA_ "GenMsgSendType" BO_ 100 "mixed";'], {"transmission_mode": "mixed"}, {}),
     ("an enumeration of numbers", [FRAME, SIGNAL, 'BA_DEF_ SG_ "GenSigSendType" ENUM "1","cyclic";', 'BA_ "GenSigSendType" SG_ 100 Signal 1;'], {}, PENDING),
-    ("a multiplexor alone", [FRAME, SIGNAL.replace(" :", " M :")], {"refused": None}, {"comment": None}),
-    ("a multiplexed signal", [FRAME, ' SG_ Mux M : 0|4@1+ (1,0) [0|0] "" CASE', ' SG_ Signal m3 : 8|8@1+ (1,0) [0|0] "" CASE',
-                              "SG_MUL_VAL_ 100 Signal Mux 3-3;", 'CM_ SG_ 100 Signal "Wind";'], {"refused": None}, {"comment": "Wind; while Mux is 3"}),
-    ("a multiplexor", [FRAME, ' SG_ Signal M : 0|4@1+ (1,0) [0|0] "" CASE', ' SG_ A m0 : 8|8@1+ (1,0) [0|0] "" CASE',
-                       ' SG_ B m1 : 8|8@1+ (1,0) [0|0] "" CASE'],
-     {"refused": None}, {"comment": "says which of the messages A, B the frame holds"}),
+    ("a multiplexor alone", [FRAME, SIGNAL.replace(" :", " M :")], {"refused": None}, {"comment": None, **NO_MULTIPLEXOR}),
+    ("a multiplexed signal", [*PAGES, "SG_MUL_VAL_ 100 Signal Mux 3-3;", 'CM_ SG_ 100 Signal "Wind";'],
+     {"refused": None}, {"comment": "Wind", "multiplexor": "Mux", "multiplexor_value": 3}),
+    ("a multiplexor whose name is another's too", [*PAGES, FRAME.replace("100 Frame", "101 Other"), SIGNAL.replace("Signal", "Mux")],
+     {"refused": None}, {"comment": None, "multiplexor": "Frame.Mux", "multiplexor_value": 3}),
+    ("a multiplexor", [line.replace("Signal", "Wind").replace("Mux", "Signal") for line in PAGES], {"refused": None}, {"comment": None, **NO_MULTIPLEXOR}),
+    ("a multiplexed signal of more than is read", [*PAGES, "SG_MUL_VAL_ 100 Signal Mux 3-4;"], {}, NO_MULTIPLEXOR),
 ]
 
 # bytes of a file whose unit is in degrees
@@ -140,6 +143,7 @@ def of_others(lines):
     return [line.replace("VAN", "GATEWAY").replace("CASE", "Vector__XXX") for line in lines]
 
 
+MORE = '[message.More]\nipdu = "Frame"\nstart_bit = 16\nsize_in_bits = 8\n'
 WITH_TYPE = [FRAME, SIGNAL, *with_send_type("cyclicIfActive")]
 NO_SENDER = ["BO_ 100 Frame: 8 Vector__XXX", SIGNAL, *TIMES]
 SIGNAL_TYPE = [FRAME, SIGNAL, *attribute_ways("SG_", "GenSigSendType", "SG_ 100 Signal", "IfActive")[0]]
@@ -172,6 +176,17 @@ REFUSALS = [
      [f"a.dbc: ipdu.Frame: {MULTIPLEX}"]),
     ("m0 with no multiplexor", [FRAME, ' SG_ B m0 : 8|8@1+ (1,0) [0|0] "" CASE'], "", [f"a.dbc: ipdu.Frame: {MULTIPLEX}"]),
     ("two multiplexors", [FRAME, ' SG_ A M : 0|4@1+ (1,0) [0|0] "" CASE', ' SG_ B M : 8|8@1+ (1,0) [0|0] "" CASE'], "", [f"a.dbc: ipdu.Frame: {MULTIPLEX}"]),
+    ("a multiplexor that is left out", PAGES, 'leave_out = ["Frame.Mux"]\n',
+     ["a.dbc: message.Signal.multiplexor: Mux is left out, and a frame holds this one only while Mux is 3",
+      "a.dbc: message.Rain.multiplexor: Mux is left out, and a frame holds this one only while Mux is 4"]),
+    ("a multiplexor that is left out with its signals", PAGES, 'leave_out = ["Mux", "Signal", "Rain"]\n', []),
+    ("a multiplexor that is wrong itself", [*PAGES, START, 'BA_ "GenSigStartValue" SG_ 100 Mux 1.5;'], "",
+     ["a.dbc: message.Mux.initial_value_raw: is 1.5, has to be a whole number"]),
+    ("a multiplexor that never has the value", [line.replace("m4", "m16") for line in PAGES], "",
+     ["a.dbc: message.Rain.multiplexor_value: is 16, has to be 0 to 15"]),
+    ("a multiplexor in the TOML", PAGES, MORE + 'multiplexor = "Frame.Mux"\nmultiplexor_value = 5\n', []),
+    ("a wrong multiplexor in the TOML", PAGES, MORE + 'multiplexor = "Frame.Mix"\nmultiplexor_value = 5\n',
+     ['a.toml: message.More.multiplexor: there is no message "Frame.Mix"']),
     ("times with no sender", NO_SENDER, "", []),
     ("times with a sender from the TOML", NO_SENDER, '[ipdu.Frame]\nsender = "VAN"\ntime_offset_ms = 25\n',
      ["a.toml: ipdu.Frame.time_offset_ms: 25 ms is no whole number of ticks of 10 ms: 2 ticks are 20 ms, 3 are 30 ms"]),
@@ -329,9 +344,22 @@ ODD_LINES = [
     'VAL_ 7 Shared 0 "say \'no\'" -1 "b/" ;',
 ]
 ODD_STARTS = ("BU_", "BO_", " SG_", "CM_ BO_", "CM_ SG_", 'BA_DEF_ BO_  "GenMsgCycleTime"', "BA_ ", "VAL_")  # all their lines are the above
-SMALL = 'tick_ms = 1\nnodes = ["V"]\n[ipdu.A]\nsender = "V"\nsize_in_bytes = 4\ndeadline_ms = 1\n'
+SMALL = 'tick_ms = 1\nnodes = ["V", "W"]\n[ipdu.A]\nsender = "V"\nsize_in_bytes = 4\ndeadline_ms = 1\n'
 ON_A = 'ipdu = "A"\nstart_bit = 0\nsize_in_bits = 4\n'
+
+
+def paged(value, more_of_first="", rest=""):
+    """A file with two messages, of which the first says whether a frame holds the second."""
+    multiplexed = f'multiplexor = "Mux"\nmultiplexor_value = {value}\n'
+    return f'{SMALL}id = 1\nreceivers = ["W"]\n[message.Mux]\n{ON_A}{more_of_first}[message.Page]\n{ON_A}{multiplexed}{rest}'
+
+
 NOT_WRITTEN = [
     ("no identifier", SMALL, "a.toml: ipdu.A.id: is missing, and a DBC needs it"),
+    ("two multiplexors", paged(1, "", f'[message.Other]\n{ON_A}[message.Last]\n{ON_A}multiplexor = "Other"\nmultiplexor_value = 2\n'),
+     "a.toml: message.Last.multiplexor: is Other, and another in A is Mux: a DBC has one in a frame"),
+    ("a multiplexor of a receiver's", paged(1, 'node = "W"\n'),
+     "a.toml: message.Page.multiplexor: Mux is not its sender's, and a DBC has no word for it"),
+    ("a multiplexor below 0", paged(-1, "signed = true\n"), "a.toml: message.Page.multiplexor_value: is -1, and a DBC has none below 0"),
     ("a name twice", f'{SMALL}id = 1\n[message.X]\n{ON_A}[message."B.X"]\n{ON_A}', "a.toml: message.B.X: is X in a DBC, and so is X"),
 ]

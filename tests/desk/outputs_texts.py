@@ -266,6 +266,53 @@ node = "west"
 start_bit = 19
 size_in_bits = 1
 
+[ipdu.Paged]
+sender = "east"
+receivers = ["west"]
+size_in_bytes = 4
+deadline_ms = 100
+
+[message.Page]
+ipdu = "Paged"
+start_bit = 0
+size_in_bits = 4
+
+[message.First]
+ipdu = "Paged"
+start_bit = 8
+size_in_bits = 8
+multiplexor = "Page"
+multiplexor_value = 3
+receiver.west = { queue_size = 2 }
+
+[message.Other]
+ipdu = "Paged"
+start_bit = 8
+size_in_bits = 8
+multiplexor = "Page"
+multiplexor_value = 4
+
+[message.AlsoFirst]
+ipdu = "Paged"
+start_bit = 15
+size_in_bits = 2
+multiplexor = "Page"
+multiplexor_value = 3
+
+[message.InAll]
+ipdu = "Paged"
+start_bit = 16
+size_in_bits = 1
+
+[message.OtherAgain]
+node = "west"
+receives = "Other"
+queue_size = 1
+
+[message.FirstInside]
+receives = "First"
+queue_size = 1
+
 [message.Cold]
 ipdu = "Prompt"
 start_bit = 0
@@ -291,11 +338,15 @@ receives = "Cold"
 filter = { algorithm = "NewIsWithin", min = 8, max = 20 }
 '''
 LONG = "AName_That_Is_Much_Longer_Than_Any_Name_Of_A_Message_That_A_Person_Would_Choose_And_Longer_Than_A_Line_Of_The_Whole_Report_It_Is_In"
+SHARED_PAGES = ["Paged: First and AlsoFirst share bit 15", "Paged: AlsoFirst and InAll share bit 16"]
+KINDS = {"east": ["sent in Paged while Page is 3", "sent in Paged while Page is 4"],
+         "west": ["received in Paged while Page is 3", "received in Paged while Page is 4"]}
 WARNINGS = {
     "east": [
         "Late: its deadline of 110 ms is longer than its period of 100 ms",
         f"Late: {LONG} and Shared share bit 3",
         "Fine: none of the node's messages lies in it",
+        *SHARED_PAGES,
         "Unheard: no node receives it",
         "Unheard: its initial value 16 does not fit 4 bits",
         "Cold: its initial value -9 does not fit 4 signed bits",
@@ -307,7 +358,10 @@ WARNINGS = {
         f"Late: {LONG} and Shared share bit 3",
         "Prompt: its deadline of 100 ms is not longer than the sender's period of 100 ms",
         "Fine: none of the node's messages lies in it",
+        *SHARED_PAGES,
         "Shared: its filter is Never, so nothing arrives",
+        "First: its queue gets the values of all frames, also of those that do not hold it",
+        "OtherAgain: its queue gets the values of all frames, also of those that do not hold it",
         "Second: its initial value -9 does not fit 4 signed bits",
         "Second: its named value 8, hot, does not fit 4 signed bits",
         "Third: its initial value -9 does not fit 4 signed bits",

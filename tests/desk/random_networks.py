@@ -1,4 +1,4 @@
-"""Random networks as TOML files, for tests: I-PDUs of all modes and messages of all sizes, orders and signs, with scalings, queues and filters."""
+"""Random networks as TOML files, for tests: I-PDUs of all modes and messages of all sizes, orders and signs, with scalings, queues, filters and multiplexors."""
 import random
 
 from desk import bits
@@ -11,7 +11,7 @@ FILTERS = ["", 'filter = "NewIsDifferent"', 'filter = { algorithm = "OneEveryN",
 
 
 def random_message(name, ipdu, length, sender, receivers, for_all):
-    """The lines of a message, which has all the receivers or perhaps the first alone or none: it is the sender's own."""
+    """The lines of a message, which has all the receivers or perhaps the first alone or none: it is the sender's own. With the greatest value of its bits."""
     size = random.randint(1, min(32, 8 * length))
     big, signed = random.random() < 0.5, random.random() < 0.5
     start = random.choice([start for start in range(8 * length) if bits.fits(start, size, big, length)])
@@ -26,7 +26,7 @@ def random_message(name, ipdu, length, sender, receivers, for_all):
     elif receivers:
         lines.append(random.choice(["", f"receiver.{receivers[0]} = {{ queue_size = 3 }}"]))
         lines.append("" if for_all else random.choice(["", f'receivers = ["{receivers[0]}"]']))
-    return lines
+    return lines, bits.greatest(size, signed)
 
 
 def random_ipdu(name, identifier, tick):
@@ -46,13 +46,15 @@ def random_ipdu(name, identifier, tick):
 
 
 def random_toml():
-    """A TOML file. Some messages of different I-PDUs share the name that a DBC gives them."""
+    """A TOML file. The first messages of its I-PDUs share the name that a DBC gives them; they are the multiplexors of some others."""
     tick = random.choice([1, 5, 10, 0.5])
     lines = [f"tick_ms = {tick}", f"nodes = {NODES}"]
     for number in range(random.randint(1, 6)):
         ipdu, length, sender, receivers = random_ipdu(f"Frame{number}", 0x100 + number, tick)
-        lines += ipdu
-        for count in range(random.randint(1, 6)):
-            name = f"Frame{number}.Shared" if count == 0 else f"Signal{number}_{count}"
-            lines += random_message(name, f"Frame{number}", length, sender, receivers, count == 0)
+        first, most = random_message(f"Frame{number}.Shared", f"Frame{number}", length, sender, receivers, True)
+        lines += ipdu + first
+        for count in range(1, random.randint(1, 6)):
+            lines += random_message(f"Signal{number}_{count}", f"Frame{number}", length, sender, receivers, False)[0]
+            if random.random() < 0.3:
+                lines += [f'multiplexor = "Frame{number}.Shared"', f"multiplexor_value = {random.randint(0, most)}"]
     return "\n".join(lines) + "\n"

@@ -80,9 +80,9 @@ def read(path):
     database = {"nodes": node_names(ecu.name for ecu in matrix.ecus), "ipdu": {}, "message": {}}
     for frame in frames:
         database["ipdu"][frame.name] = ipdu(matrix, frame)
+        own = {signal.name: signal.name if names[signal.name] == 1 else f"{frame.name}.{signal.name}" for signal in frame.signals}
         for signal in frame.signals:
-            name = signal.name if names[signal.name] == 1 else f"{frame.name}.{signal.name}"
-            database["message"][name] = message(matrix, frame, signal)
+            database["message"][own[signal.name]] = {**message(matrix, frame, signal), **multiplexing(frame, signal, own)}
     return database
 
 
@@ -238,9 +238,16 @@ def message(matrix, frame, signal):
         "receivers": [node for node in node_names(signal.receivers) if node not in node_names(frame.transmitters)],
         "values": {str(value): name for value, name in signal.values.items()} or None,
         **transfer,
-        "comment": comment(frame, signal) or None,
+        "comment": (signal.comment or "").strip() or None,
         "refused": refused or None,
     })
+
+
+def multiplexing(frame, signal, own):
+    """The multiplexor of a signal, by the database's own name of its message, and the value of it; nothing where there is none, or more than is read."""
+    if signal.mux_val is None or is_extended_multiplex(frame):
+        return {}
+    return {"multiplexor": next(own[switch.name] for switch in frame.signals if switch.is_multiplexer), "multiplexor_value": signal.mux_val}
 
 
 def initial(matrix, signal):
@@ -250,13 +257,3 @@ def initial(matrix, signal):
         return number(stored)
     return number((signal.initial_value - signal.offset) / signal.factor) if signal.initial_value and signal.factor else 0
 
-
-def comment(frame, signal):
-    """A signal's comment, with what a multiplexor has to do with it."""
-    words = [signal.comment.strip()] if signal.comment else []
-    held = [other.name for other in frame.signals if other.mux_val is not None]
-    if signal.is_multiplexer and held:
-        words.append(f"says which of the messages {', '.join(held)} the frame holds")
-    elif signal.mux_val is not None:
-        words += [f"while {switch.name} is {signal.mux_val}" for switch in frame.signals if switch.is_multiplexer]
-    return "; ".join(words)

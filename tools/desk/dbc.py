@@ -47,6 +47,7 @@ class Writer:
         self.signals = {}
         for ipdu in network.ipdus:
             self.signals |= self.short_names("message", [message.name for message in self.carried(ipdu)])
+        self.multiplexors = [self.multiplexor(ipdu) for ipdu in network.ipdus]
 
     def short_names(self, key, names):
         """FRAME.SIGNAL is SIGNAL in a DBC."""
@@ -60,6 +61,21 @@ class Writer:
     def carried(self, ipdu):
         """What its sender puts into it, not what a receiver alone sees in it."""
         return [message for message in self.network.messages if message.ipdu is ipdu and (message.node is None or message.kind == SEND)]
+
+    def multiplexor(self, ipdu):
+        """The message whose value says which of the others a frame holds, or None."""
+        carried = self.carried(ipdu)
+        held = [message for message in carried if message.multiplexor is not None]
+        for message in held:
+            of, value = message.multiplexor, message.multiplexor_value
+            if of is not held[0].multiplexor:
+                raise wrong(self.network.file, f"message.{message.name}.multiplexor", f"is {of.name}, and another in {ipdu.name} is {held[0].multiplexor.name}: "
+                            "a DBC has one in a frame")
+            if not any(other is of for other in carried):
+                raise wrong(self.network.file, f"message.{message.name}.multiplexor", f"{of.name} is not its sender's, and a DBC has no word for it")
+            if value < 0:
+                raise wrong(self.network.file, f"message.{message.name}.multiplexor_value", f"is {value}, and a DBC has none below 0")
+        return held[0].multiplexor if held else None
 
     def text(self):
         parts = [self.head(), self.bus(), self.comments(), self.attributes(), self.values()]
@@ -89,7 +105,8 @@ class Writer:
         least, greatest = (given if given is not None else end for given, end in zip((message.minimum, message.maximum), ends))
         scaling = f"({message.scaling.factor:f},{message.scaling.offset:f}) [{least:f}|{greatest:f}]"
         receivers = ",".join(self.nodes[node] for node in message.receivers) or NOBODY
-        return f" SG_ {self.signals[message.name]} : {place} {scaling} {quoted(message.scaling.unit)}  {receivers}"
+        held = " M" if any(of is message for of in self.multiplexors) else f" m{message.multiplexor_value}" if message.multiplexor is not None else ""
+        return f" SG_ {self.signals[message.name]}{held} : {place} {scaling} {quoted(message.scaling.unit)}  {receivers}"
 
     # what is said of them
 

@@ -57,11 +57,12 @@ def ipdu_words(board, number):
 
 
 def lies(board, entry):
-    """The kind of an object, and the I-PDU or object that it belongs to."""
-    record = entry.record
+    """The kind of an object, the I-PDU or object that it belongs to, and what its multiplexor has to be."""
+    record, of = entry.record, entry.of
     kind = "sent" if record.kind == SEND else "received"
     if record.ipdu != NONE:
-        return f"{kind} in {board.ipdu_name(record.ipdu)}"
+        held = f" while {of.multiplexor.name} is {of.multiplexor_value}" if of.multiplexor is not None else ""
+        return f"{kind} in {board.ipdu_name(record.ipdu)}{held}"
     return f"{kind} inside from {board.object_name(record.sender)}" if record.sender != NONE else f"{kind} in no I-PDU"
 
 

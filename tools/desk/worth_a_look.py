@@ -32,16 +32,23 @@ def deadline_reason(network, ipdu, record):
 
 
 def shared(carried):
-    """Bits of several messages; two objects of one message share theirs by intent."""
+    """Bits of several messages that one frame may hold; two objects of one message share theirs by intent."""
     owners = {}
     for entry in carried:
         for place in bits.places(entry.record.start, entry.record.bits, entry.record.big):
-            owners.setdefault(place, {})[id(entry.of.receives or entry.of)] = entry.name
+            owners.setdefault(place, {})[id(entry.of.receives or entry.of)] = entry
     groups = {}
-    for place, names in sorted(owners.items()):
-        if len(names) > 1:
-            groups.setdefault(tuple(names.values()), []).append(place)
+    for place, found in sorted(owners.items()):
+        entries = list(found.values())
+        names = tuple(entry.name for entry in entries if any(other is not entry and may_one_frame_hold(entry.of, other.of) for other in entries))
+        if names:
+            groups.setdefault(names, []).append(place)
     return [f"{joined(names)} share bit{'s' * (len(places) > 1)} {', '.join(map(str, places))}" for names, places in groups.items()]
+
+
+def may_one_frame_hold(message, other):
+    """Whether both may be in it: not with two values of one multiplexor."""
+    return message.multiplexor is None or message.multiplexor is not other.multiplexor or message.multiplexor_value == other.multiplexor_value
 
 
 def object_reasons(board, entry):
@@ -51,6 +58,8 @@ def object_reasons(board, entry):
         yield "no node receives it"
     if record.kind == RECEIVE and record.filter == NEVER:
         yield "its filter is Never, so nothing arrives"
+    if record.depth and entry.of.multiplexor is not None:
+        yield "its queue gets the values of all frames, also of those that do not hold it"
     if not least <= bits.meant(record.initial, record.signed) <= greatest:
         yield f"its initial value {one_line(entry.text(record.initial))} does not fit {size}"
     if not can_pass(entry.filter(), record):
