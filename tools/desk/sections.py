@@ -26,6 +26,12 @@ def quoted(values):
     return ", ".join(str(value) for value in values)
 
 
+def question(name, names):
+    """After a name that is not there: which one of these was meant; empty where none is like it."""
+    near = difflib.get_close_matches(name, names, 1)
+    return f"; did you mean \"{near[0]}\"?" if near else ""
+
+
 class Section:
     """`origins` names, by key, the file that a value came from where it is not `file`."""
 
@@ -95,8 +101,7 @@ class Section:
     def known(self, key, name, names, what):
         """A name that has to be there already."""
         if name not in names:
-            near = difflib.get_close_matches(name, names, 1)
-            raise self.wrong(key, f"there is no {what} \"{name}\"" + (f"; did you mean \"{near[0]}\"?" if near else ""))
+            raise self.wrong(key, f"there is no {what} \"{name}\"{question(name, names)}")
         return name
 
     def ticks(self, key, tick, default=0, least=0):
@@ -114,8 +119,8 @@ class Section:
         """After all that could be taken."""
         for key in self.data:
             if key not in self.taken:
-                near = difflib.get_close_matches(key, sorted(self.taken), 1)
-                raise self.wrong(key, "is not known here" + (f"; did you mean \"{near[0]}\"?" if near else f"; known are {quoted(sorted(self.taken))}"))
+                known = sorted(self.taken)
+                raise self.wrong(key, "is not known here" + (question(key, known) or f"; known are {quoted(known)}"))
 
     def value(self, key, scaling, size, signed, default=0):
         """A value in its unit, or by its name, that has to fit its bits; or KEY_raw, any 32 bits. Both as 32 bits."""
