@@ -12,6 +12,7 @@ TOP = os.path.join(os.path.dirname(os.path.realpath(__file__)), "..")
 sys.path[:0] = [os.path.join(TOP, "tools"), os.path.join(TOP, "tests", "desk")]
 
 import database_cases as cases
+import database_names as names
 from desk import database
 from desk.dbc import dbc, encoded
 from desk.records import TRIGGERED
@@ -86,6 +87,12 @@ def test_refusals(folder):
     for what, lines, toml, expected in cases.REFUSALS:
         folder.file("a.dbc", cases.dbc_text(lines))
         same(what, folder.refusal(load, folder.file("a.toml", cases.TOML + toml)), expected)
+
+
+def test_unknown_names(folder):
+    folder.file("a.dbc", cases.dbc_text(names.LINES))
+    for toml, expected in names.UNKNOWN_NAMES:
+        same(f"a TOML with {toml}", folder.refusal(load, folder.file("a.toml", cases.TOML + toml)), expected)
 
 
 def test_over(folder):
@@ -230,13 +237,14 @@ def main():
         test_climate()
         test_readings(folder)
         test_refusals(folder)
+        test_unknown_names(folder)
         test_over(folder)
         test_wrong_files(folder)
         test_container()
         others = test_other_formats(folder)
         count = test_back(folder)
-    wrong = len(cases.WRONG_FILES + cases.WRONG_LINES)
-    print(f"desk_database.py: {len(cases.READINGS)} readings, {len(cases.REFUSALS)} refusals, {wrong} wrong files; {count} messages of {NETWORKS + 2} networks "
+    refusals, wrong = len(cases.REFUSALS + names.UNKNOWN_NAMES), len(cases.WRONG_FILES + cases.WRONG_LINES)
+    print(f"desk_database.py: {len(cases.READINGS)} readings, {refusals} refusals, {wrong} wrong files; {count} messages of {NETWORKS + 2} networks "
           "are the same after a DBC" + ("" if others else "; KCD and ARXML left out: python3-lxml is not on this machine"))
 
 

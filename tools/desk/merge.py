@@ -1,11 +1,14 @@
 """A TOML file over the database that it names: what the TOML says of an I-PDU or a message is added, and wins where both say something."""
 import os
 
-from .sections import Section
+from .sections import Section, question
 from .wrong import line
 
 # Keys that say the same in two ways: the TOML's way replaces the database's.
 TWO_WAYS = [{"start_bit", "dbc_start_bit"}, {"initial_value", "initial_value_raw"}]
+# Keys, one of which a section needs that stands by itself, with no section of the database below it.
+ALONE = {"ipdu": {"size_in_bytes"}, "message": {"ipdu", "receives", "node"}}
+TABLES = {"receiver", "values", "filter"}  # keys of a message that are tables
 # Keys of an I-PDU that has a sender.
 SENDING = {"transmission_mode", "time_period_ms", "time_offset_ms", "minimum_delay_time_ms"}
 
@@ -45,6 +48,7 @@ def merged(path, data):
             both[kind][name] = {**given, **over}
             origins[kind, name] = dict.fromkeys(given, file)
             refused[kind, name] = [line(file, f"{kind}.{name}.{key}".rstrip("."), reason) for key, reason in reasons.items() if key not in hidden]
+            refused[kind, name] += [line(path, key, reason) for key, reason in not_found(below, kind, name, over)]
     return both, origins, below["nodes"], refused
 
 
@@ -56,6 +60,25 @@ def database_file(path, name):
 def has_receivers(section):
     """Whether the TOML says who receives an I-PDU: then a message of nobody's in the database is theirs."""
     return isinstance(section, dict) and "receivers" in section
+
+
+def not_found(below, kind, name, section):
+    """Key and reason for each name of the TOML that was meant to be one of the database's."""
+    dotted = [f"{name}.{key}" for key, value in section.items() if isinstance(value, dict) and key not in TABLES]
+    if kind == "message" and name in below["ipdu"] and dotted:
+        return [(f"message.{written}", f"a name with a dot is written in quotes: [message.\"{written}\"]") for written in dotted]
+    if name in below[kind] or ALONE[kind] & set(section):
+        return []
+    several = [f"\"{other}\"" for other in below["message"] if kind == "message" and other.endswith(f".{name}")]
+    if several:
+        return [(f"message.{name}", f"stands in several frames: write {' or '.join(several)}")]
+    what = "I-PDU" if kind == "ipdu" else "message"
+    return [(f"{kind}.{name}", f"the database has no {what} \"{name}\"{question(name, names_of(below, kind))}")]
+
+
+def names_of(below, kind):
+    """The names that a section may have; of a message also FRAME.SIGNAL."""
+    return [*below[kind], *(f"{section['ipdu']}.{name}" for name, section in below[kind].items() if kind == "message" and "." not in name)]
 
 
 def lost_multiplexor(section, left_out):
