@@ -93,6 +93,8 @@ def test_unknown_names(folder):
     folder.file("a.dbc", cases.dbc_text(names.LINES))
     for toml, expected in names.UNKNOWN_NAMES:
         same(f"a TOML with {toml}", folder.refusal(load, folder.file("a.toml", cases.TOML + toml)), expected)
+    for nodes, toml, expected in names.UNKNOWN_NODES:
+        same(f"{nodes} with {toml}", folder.refusal(load, folder.file("a.toml", cases.TOML.replace('"CASE"', nodes) + toml)), expected)
 
 
 def test_over(folder):
@@ -243,7 +245,7 @@ def main():
         test_container()
         others = test_other_formats(folder)
         count = test_back(folder)
-    refusals, wrong = len(cases.REFUSALS + names.UNKNOWN_NAMES), len(cases.WRONG_FILES + cases.WRONG_LINES)
+    refusals, wrong = len(cases.REFUSALS + names.UNKNOWN_NAMES + names.UNKNOWN_NODES), len(cases.WRONG_FILES + cases.WRONG_LINES)
     print(f"desk_database.py: {len(cases.READINGS)} readings, {refusals} refusals, {wrong} wrong files; {count} messages of {NETWORKS + 2} networks "
           "are the same after a DBC" + ("" if others else "; KCD and ARXML left out: python3-lxml is not on this machine"))
 

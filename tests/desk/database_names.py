@@ -27,3 +27,17 @@ UNKNOWN_NAMES = [
      ['a.toml: ipdu.Own: the database has no I-PDU "Own"', f"a.toml: message.HumFornt: {NO_FRONT}",
       'a.toml: message.Light: the database has no message "Light"']),
 ]
+
+# Of the nodes of a TOML the second and what stands below, and what is said.
+UNKNOWN_NODES = [
+    ('"CASE"', "", []),
+    ('"CAES"', "", ['a.toml: nodes: there is no node "CAES" in a.dbc; did you mean "CASE"?']),
+    ('"ROOF", "GATEWY"', "", ['a.toml: nodes: there is no node "ROOF" in a.dbc', 'a.toml: nodes: there is no node "GATEWY" in a.dbc; did you mean "GATEWAY"?']),
+    ('"ROOF"', 'outside = ["ROOF"]\n', ['a.toml: nodes: there is no node "ROOF" in a.dbc']),
+    ('"ROOF"', '[ipdu.Own]\nsize_in_bytes = 1\nsender = "ROOF"\n', []),
+    ('"ROOF"', '[ipdu.HvacStatus]\nreceivers = ["ROOF", "CASE"]\n', []),
+    ('"ROOF"', "[ipdu.HvacStatus]\nreceiver.ROOF.deadline_ms = 100\n", []),
+    ('"ROOF"', '[ipdu.HvacStatus]\nreceivers = ["ROOF", "CASE"]\n[message."HvacStatus.Status"]\nreceiver.ROOF.queue_size = 2\nreceivers = ["ROOF", "CASE"]\n', []),
+    ('"ROOF"', '[message.Own]\nnode = "ROOF"\n', []),
+    ('"ROOF"', "[message]\nOwn = 3\n[ipdu.HvacStatus]\nreceivers = 3\n", ['a.toml: nodes: there is no node "ROOF" in a.dbc']),
+]

@@ -2,7 +2,7 @@
 import os
 
 from .sections import Section, question
-from .wrong import line
+from .wrong import Wrong, line
 
 # Keys that say the same in two ways: the TOML's way replaces the database's.
 TWO_WAYS = [{"start_bit", "dbc_start_bit"}, {"initial_value", "initial_value_raw"}]
@@ -26,6 +26,7 @@ def merged(path, data):
     below = read(file)
     data, left_out = with_own_names(top, below), [own_name(below, name) for name in left_out]
     nodes = top.names("nodes", below["nodes"])
+    check_nodes(top, database, nodes, {*below["nodes"], *nodes_of(below)}, nodes_of(data))
     for name in left_out:
         top.known("leave_out", name, [*below["ipdu"], *below["message"]], "I-PDU or message of the database")
     kept = kept_of(below, data, nodes, left_out)
@@ -60,6 +61,22 @@ def database_file(path, name):
 def has_receivers(section):
     """Whether the TOML says who receives an I-PDU: then a message of nobody's in the database is theirs."""
     return isinstance(section, dict) and "receivers" in section
+
+
+def nodes_of(data):
+    """The nodes that the sections of a TOML or of a database name."""
+    found = set()
+    for section in (section for kind in ("ipdu", "message") for section in data[kind].values() if isinstance(section, dict)):
+        found |= {name for key in ("sender", "node") if isinstance(name := section.get(key), str)}
+        found |= {name for key in ("receivers", "receiver") if isinstance(section.get(key), (list, dict)) for name in section[key] if isinstance(name, str)}
+    return found
+
+
+def check_nodes(top, database, nodes, theirs, own):
+    """Refuses a node that nothing is said of."""
+    unknown = [node for node in nodes if node not in theirs | own]
+    if unknown:
+        raise Wrong(*(line(top.file, "nodes", f"there is no node \"{node}\" in {database}{question(node, sorted(theirs))}") for node in unknown))
 
 
 def not_found(below, kind, name, section):
