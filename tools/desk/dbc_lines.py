@@ -7,6 +7,9 @@ from .wrong import wrong
 
 MOST_SHOWN = 100  # letters of a line
 EXTENDED = 0x1FFFFFFF  # the greatest CAN identifier
+FRAME = re.compile(r"\s*BO_\s+0*(\d+)\s+(\w+)")
+OF_SIGNAL = re.compile(r"\s*(?:VAL_|CM_\s+SG_|SIG_VALTYPE_)\s+(\w+)\s+([A-Za-z_]\w*)")  # VAL_ may also be of an environment variable, with a number next
+WHOLE_NUMBER = re.compile(r"\s*SIG_VALTYPE_\s+\w+\s+\w+\s*:\s*0\s*;\s*")
 QUOTE = re.compile(r'(?<!\\)"')
 PLACE = re.compile(r"\b(BO_|SG_)\s+(\w+)")
 ENUM = re.compile(r'BA_DEF_ +(\w\w_) +"([^"]+)" +ENUM +(.*);')
@@ -24,7 +27,8 @@ NOT_ENDED, LISTS = {"VERSION", "NS_", "BS_", "BU_", "BO_", "SG_"}, {"NS_", "BS_"
 
 
 class Lines:
-    """`data` is what canmatrix is to read, in `encoding`: the file with the words of enumerations as their indices."""
+    """`data` is what canmatrix is to read, in `encoding`: the file with the words of enumerations as their indices, and without the lines that say of a
+    signal that it is a whole number, which canmatrix takes for the contrary."""
 
     def __init__(self, file, data):
         self.file = file
@@ -35,9 +39,10 @@ class Lines:
         lines = [line.decode(self.encoding) for line in io.BytesIO(data)]
         self.statements = self.outside_texts(lines)
         self.check_words()
+        self.check_identifiers()
         self.enums = {(found[1], found[2]): re.findall('"[^"]*"', found[3]) for _, line in self.statements if (found := ENUM.match(line.strip()))}
         for number, line in self.statements:
-            lines[number - 1] = self.with_index(number, line)
+            lines[number - 1] = "\n" if WHOLE_NUMBER.fullmatch(line) else self.with_index(number, line)
         self.lines = [line.encode(self.encoding) for line in lines]
         self.data = b"".join(self.lines)
 
@@ -68,6 +73,15 @@ class Lines:
                 goes_on = word in LISTS if word in NOT_ENDED else ";" not in statement
             elif statement.strip() and not goes_on:
                 raise self.wrong(number, "begins with no word of a DBC", line)
+
+    def check_identifiers(self):
+        """Refuses a frame with the identifier of one before it: canmatrix takes what is said of the second for the first."""
+        first = {}
+        for number, line in self.statements:
+            if found := FRAME.match(line):
+                name, before = first.setdefault(found[1], (found[2], number))
+                if before != number:
+                    raise self.wrong(number, f"{found[2]} has the identifier of {name} in line {before}", line)
 
     def with_index(self, number, line):
         """A line whose attribute has a word of its enumeration, with the word's index."""
@@ -105,6 +119,20 @@ class Lines:
             if len(names) < len(signals):
                 at, text = next(((at, text) for name, at, text in signals if name not in names), (number, line))
                 raise self.wrong(at, "canmatrix passes over a signal there", text)
+        self.check_signals()
+
+    def check_signals(self):
+        """Refuses a line on a signal that is not there: canmatrix passes over it."""
+        signals = {}
+        for _, _, identifier, found in self.frames():
+            signals.setdefault(identifier, []).extend(name for name, _, _ in found)
+        for number, line in self.statements:
+            if named := OF_SIGNAL.match(line):
+                identifier = identifier_of(named[1])
+                if identifier not in signals:
+                    raise self.wrong(number, "there is no such frame", line)
+                if named[2] not in signals[identifier]:
+                    raise self.wrong(number, "its frame has no such signal", line)
 
     def frames(self):
         """Number and text of the line, identifier and signals (name, number and text of the line) of each frame, as the words BO_ and SG_ say."""
@@ -129,7 +157,7 @@ def matters(line):
 
 def identifier_of(text):
     """A BO_ line's number: bit 31 says that the identifier is an extended one."""
-    number = int(text) if text.isdecimal() else -1
+    number = int(text) if re.fullmatch("[0-9]{1,10}", text) else -1
     return number & EXTENDED, bool(number >> 31)
 
 
