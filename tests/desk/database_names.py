@@ -1,8 +1,8 @@
 """What tests/desk_database.py looks at: TOML files with names that the database does not have. Lines after those of database_cases.TOML, and what is said."""
 from database_cases import FRAME, SIGNAL
 
-HVAC = FRAME.replace("100 Frame", "101 HvacStatus")
-LINES = [FRAME.replace("Frame", "CargoClimate"), SIGNAL.replace("Signal", "HumFront"), SIGNAL.replace("Signal", "Status"), HVAC, SIGNAL.replace("Signal", "Status")]
+STATUS = SIGNAL.replace("Signal", "Status")
+LINES = [FRAME.replace("Frame", "CargoClimate"), SIGNAL.replace("Signal", "HumFront"), STATUS, FRAME.replace("100 Frame", "101 HvacStatus"), STATUS]
 ALONE = 'ipdu = "CargoClimate"\nstart_bit = 8\nsize_in_bits = 8\n'
 NO_FRONT = 'the database has no message "HumFornt"; did you mean "HumFront"?'
 QUOTES = "a name with a dot is written in quotes"
@@ -19,7 +19,8 @@ UNKNOWN_NAMES = [
     ('[message.CargoClimate.Status]\nunit = "%"\n[message.CargoClimate.HumFront]\n',
      [f'a.toml: message.CargoClimate.Status: {QUOTES}: [message."CargoClimate.Status"]',
       f'a.toml: message.CargoClimate.HumFront: {QUOTES}: [message."CargoClimate.HumFront"]']),
-    ("[message.CargoClimate.receiver.CASE]\n", ['a.toml: message.CargoClimate: the database has no message "CargoClimate"; did you mean "CargoClimate.Status"?']),
+    ("[message.CargoClimate.receiver.CASE]\n",
+     ['a.toml: message.CargoClimate: the database has no message "CargoClimate"; did you mean "CargoClimate.Status"?']),
     ("[ipdu.CargoClimat]\n", ['a.toml: ipdu.CargoClimat: the database has no I-PDU "CargoClimat"; did you mean "CargoClimate"?']),
     ("[ipdu.Status]\n", ['a.toml: ipdu.Status: the database has no I-PDU "Status"; did you mean "HvacStatus"?']),
     ("[ipdu.Own]\nsize_in_bytes = 2\n", []),
@@ -37,7 +38,7 @@ UNKNOWN_NODES = [
     ('"ROOF"', '[ipdu.Own]\nsize_in_bytes = 1\nsender = "ROOF"\n', []),
     ('"ROOF"', '[ipdu.HvacStatus]\nreceivers = ["ROOF", "CASE"]\n', []),
     ('"ROOF"', "[ipdu.HvacStatus]\nreceiver.ROOF.deadline_ms = 100\n", []),
-    ('"ROOF"', '[ipdu.HvacStatus]\nreceivers = ["ROOF", "CASE"]\n[message."HvacStatus.Status"]\nreceiver.ROOF.queue_size = 2\nreceivers = ["ROOF", "CASE"]\n', []),
+    ('"ROOF"', '[ipdu.Own]\nsize_in_bytes = 1\n[message.Bit]\nipdu = "Own"\nstart_bit = 0\nsize_in_bits = 1\nreceivers = ["ROOF"]\n', []),
     ('"ROOF"', '[message.Own]\nnode = "ROOF"\n', []),
     ('"ROOF"', "[message]\nOwn = 3\n[ipdu.HvacStatus]\nreceivers = 3\n", ['a.toml: nodes: there is no node "ROOF" in a.dbc']),
 ]

@@ -1,4 +1,4 @@
-"""Random networks as TOML files, for tests: I-PDUs of all modes and messages of all sizes, orders and signs, with scalings, queues, filters and multiplexors."""
+"""Random networks as TOML files, for tests: I-PDUs of all modes; messages of all sizes, orders and signs, with scalings, queues, filters and multiplexors."""
 import random
 
 from desk import bits

@@ -67,14 +67,13 @@ class Writer:
         carried = self.carried(ipdu)
         held = [message for message in carried if message.multiplexor is not None]
         for message in held:
-            of, value = message.multiplexor, message.multiplexor_value
-            if of is not held[0].multiplexor:
-                raise wrong(self.network.file, f"message.{message.name}.multiplexor", f"is {of.name}, and another in {ipdu.name} is {held[0].multiplexor.name}: "
-                            "a DBC has one in a frame")
+            key, of, first = f"message.{message.name}.multiplexor", message.multiplexor, held[0].multiplexor
+            if of is not first:
+                raise wrong(self.network.file, key, f"is {of.name}, and another in {ipdu.name} is {first.name}: a DBC has one in a frame")
             if not any(other is of for other in carried):
-                raise wrong(self.network.file, f"message.{message.name}.multiplexor", f"{of.name} is not its sender's, and a DBC has no word for it")
-            if value < 0:
-                raise wrong(self.network.file, f"message.{message.name}.multiplexor_value", f"is {value}, and a DBC has none below 0")
+                raise wrong(self.network.file, key, f"{of.name} is not its sender's, and a DBC has no word for it")
+            if message.multiplexor_value < 0:
+                raise wrong(self.network.file, f"{key}_value", f"is {message.multiplexor_value}, and a DBC has none below 0")
         return held[0].multiplexor if held else None
 
     def text(self):
