@@ -13,10 +13,12 @@ from xml.etree import ElementTree
 
 from .dbc_lines import Lines
 from .sections import is_number
+from .words import joined
 from .wrong import read_bytes, wrong
 
 DEBIAN = "/usr/bin/python3"  # the one Python that Debian's packages are for
 NEEDED = "needs Debian's python3-canmatrix: apt-get install python3-canmatrix python3-lxml"
+ENDINGS = (".dbc", ".kcd", ".arxml")  # of the names of databases
 NO_FRAME = "holds no frame"
 NOBODY = "Vector__XXX"  # a DBC's word for no node
 FREE_SIGNALS = "VECTOR__INDEPENDENT_SIG_MSG"  # a DBC's word for the frame of signals in no frame
@@ -88,10 +90,10 @@ def read(path):
 
 def load(path):
     """What canmatrix makes of a file: its one bus."""
-    kind = os.path.splitext(path)[1].lower().removeprefix(".")
-    data = read_bytes(path)
-    if kind not in ("dbc", "kcd", "arxml"):
-        raise wrong(path, "", "is no database that can be read: its name has to end in .dbc, .kcd or .arxml")
+    ending, data = os.path.splitext(path)[1].lower(), read_bytes(path)
+    if ending not in ENDINGS:
+        raise wrong(path, "", f"is no database that can be read: its name has to end in {joined(ENDINGS, ' or ')}")
+    kind = ending.removeprefix(".")
     formats = library(path)
     if kind not in formats.supportedFormats:
         raise wrong(path, "", NEEDED)

@@ -5,6 +5,7 @@ import tomllib
 from decimal import Decimal
 
 from . import bits
+from .database import ENDINGS
 from .merge import database_file, merged
 from .network import MIXED, MODES, PERIODIC, TRANSFERS, Ipdu, Message, Network, Receiving, Scaling
 from .records import MOST_BITS, MOST_DEPTH, MOST_DEPTHS, MOST_IPDUS, MOST_LENGTH, MOST_OBJECTS, RECEIVE, SEND
@@ -17,6 +18,8 @@ STANDARD, EXTENDED = 0x7FF, 0x1FFFFFFF  # the greatest CAN identifiers
 
 def load(path):
     """The network of a TOML file."""
+    if path.lower().endswith(ENDINGS):
+        raise wrong(path, "", f"is no TOML file; a database is named in one: database = \"{os.path.basename(path)}\"")
     try:
         data = tomllib.loads(read_text(path), parse_float=Decimal)
     except tomllib.TOMLDecodeError as error:
