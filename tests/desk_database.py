@@ -142,6 +142,12 @@ def test_other_formats(folder):
         for name, section in cases.CLIMATE_MESSAGES.items():
             expected = {key: value for key, value in section.items() if key not in lost} | {"ipdu": prefix + section["ipdu"]}
             same(f"{kind}, {name}", {key: found["message"][name].get(key) for key in expected}, expected)
+    pages = database.load(folder.file("a.dbc", cases.dbc_text(cases.PAGES)))
+    with database.caught():
+        formats.dumpp({"pages": pages}, os.path.join(folder.path, "pages.kcd"))
+    found = database.read(os.path.join(folder.path, "pages.kcd"))["message"]
+    same("kcd, multiplexors", [(name, section.get("multiplexor"), section.get("multiplexor_value")) for name, section in found.items()],
+         [("Mux", None, None), ("Signal", "Mux", 3), ("Rain", "Mux", 4)])
     for text, ipdu in cases.XML_READINGS:
         found = database.read(folder.file("a.kcd", text))
         same(f"I-PDU of {text}", found["ipdu"], {"Frame": ipdu})

@@ -258,4 +258,3 @@ def initial(matrix, signal):
     if stored is not None:
         return number(stored)
     return number((signal.initial_value - signal.offset) / signal.factor) if signal.initial_value and signal.factor else 0
-

@@ -26,7 +26,7 @@ def merged(path, data):
     below = read(file)
     data, left_out = with_own_names(top, below), [own_name(below, name) for name in left_out]
     nodes = top.names("nodes", below["nodes"])
-    check_nodes(top, database, nodes, {*below["nodes"], *nodes_of(below)}, nodes_of(data))
+    check_nodes(top, nodes, below["nodes"], data)
     for name in left_out:
         top.known("leave_out", name, [*below["ipdu"], *below["message"]], "I-PDU or message of the database")
     kept = kept_of(below, data, nodes, left_out)
@@ -63,8 +63,8 @@ def has_receivers(section):
     return isinstance(section, dict) and "receivers" in section
 
 
-def nodes_of(data):
-    """The nodes that the sections of a TOML or of a database name."""
+def named_nodes(data):
+    """The nodes that the sections of a TOML name."""
     found = set()
     for section in (section for kind in ("ipdu", "message") for section in data[kind].values() if isinstance(section, dict)):
         found |= {name for key in ("sender", "node") if isinstance(name := section.get(key), str)}
@@ -72,11 +72,11 @@ def nodes_of(data):
     return found
 
 
-def check_nodes(top, database, nodes, theirs, own):
-    """Refuses a node that nothing is said of."""
-    unknown = [node for node in nodes if node not in theirs | own]
+def check_nodes(top, nodes, known, data):
+    """Refuses a node that neither the database nor a section of the TOML has."""
+    unknown = [node for node in nodes if node not in {*known, *named_nodes(data)}]
     if unknown:
-        raise Wrong(*(line(top.file, "nodes", f"there is no node \"{node}\" in {database}{question(node, sorted(theirs))}") for node in unknown))
+        raise Wrong(*(line(top.file, "nodes", f"there is no node \"{node}\" in {top.text('database')}{question(node, known)}") for node in unknown))
 
 
 def not_found(below, kind, name, section):
