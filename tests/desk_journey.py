@@ -33,7 +33,7 @@ BUS = {"log indicated": 300, "log other_length": 50, "log own": 100, "log others
        "readings dropped": 500, "networks": NETWORKS}
 SHEETS = {"drains": 200, "overflows": 100, "errors": 100, "values below 0": 10, "rows with nothing": 10}
 VCDS = {"vcd request": 200, "vcd confirm": 50, "vcd no_confirm": 20, "vcd indication": 100, "vcd error": 50, "vcd deadline": 200, "vcd open": 100,
-        "vcd delay": 10, "vcd watched": 10, "vcd marks": 500, "vcd values": 1000}
+        "vcd delay": 10, "vcd watched": 10, "vcd marks": 500, "vcd values": 1000, "vcd values of multiplexed messages": 40}
 
 
 def by_others(folder, search, python):

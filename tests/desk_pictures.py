@@ -22,7 +22,8 @@ TOP = os.path.join(os.path.dirname(os.path.abspath(__file__)), "..")
 sys.path[:0] = [os.path.join(TOP, "tools"), os.path.join(TOP, "tests", "desk")]
 from desk import html, layer, source, svg
 from desk.run import unread_line
-from journeys import Expected, in_units, largest, raw_in, samples_of, time_of, wandering
+from desk.readings import readings
+from journeys import PAGES, Expected, in_units, is_held, largest, raw_in, samples_of, time_of, wandering
 
 DRIVE = os.path.join(TOP, "target", "bin", "drive")
 SPACE = "{http://www.w3.org/2000/svg}"
@@ -44,6 +45,27 @@ SUMMARY = ["Front humidity: 45.0 to 61.4 %, last 50.1 %, 7 readings sent", "Rear
            "Freezer display: -41 to -21 °C, last -41 °C, 2 readings arrived", "Case freezer: -14 to 0 °C, last -14 °C, at least 2 readings arrived",
            "I-PDU Humidity: 1 deadline missed", "I-PDU Case: 6 deadlines missed", "Shock: values were lost, at least 1"]
 
+# Of the network with pages: a frame for one page, one for the other, and again, with sends of both pages.
+BY_HAND = """start
+indication 1 1 002A0000
+tick
+indication 1 1 01960200
+tick
+indication 1 1 00960000
+tick
+indication 1 1 01010100
+indication 1 1 00010000
+send 1 50
+confirm 0 1
+send 0 1
+confirm 0 1
+send 2 2
+tick
+receive 6
+"""
+DRAWN = {"Page": [0, 1, 1], "Warmth": [50], "Door": [2, 2], "CasePage": [0, 1, 0, 1, 0], "CaseWarmth": [0, 42, 150, 1], "CaseDoor": [0, 2, 1],
+         "CaseLock": [], "CaseShock": [], "CaseSpare": [0, 150]}
+
 
 def fail(name, words):
     sys.exit(f"desk_pictures.py: {name}: {words}")
@@ -57,8 +79,8 @@ def contents(*path):
 class Journey:
     """A run with its picture and report."""
 
-    def __init__(self, name, board, script, title):
-        self.name, self.board, self.script, self.title = name, board, script, title
+    def __init__(self, name, board, script, title, data):
+        self.name, self.board, self.script, self.title, self.messages = name, board, script, title, data["message"]
         self.made, self.states = layer.played(board, script, name)
         self.svg = svg.svg(board, self.made, self.states, title)
         self.unread = unread_line(script, self.made)
@@ -169,7 +191,7 @@ class Reader(HTMLParser):
             self.rows[-1][-1].append(data.strip())
 
 
-def check_html(journey, expected, data):
+def check_html(journey, expected):
     reader = Reader(journey)
     reader.feed(journey.html)
     reader.close()
@@ -188,24 +210,24 @@ def check_html(journey, expected, data):
     if len(rows) != len(expected.frames):
         journey.fail(f"the report has {len(rows)} frames, the run {len(expected.frames)}")
     shown = sorted((int(row[1][0]), row[4][0], row[5][0], tuple(row[6])) for row in rows)
-    worked_out = sorted((line, ipdu.name, frame.hex(" ").upper(), tuple(values_of(journey.board, number, frame, data)))
+    worked_out = sorted((line, ipdu.name, frame.hex(" ").upper(), tuple(values_of(journey, number, frame)))
                         for line, number, frame in expected.frames for ipdu in [journey.board.ipdus[number]])
     for one, other in zip(shown, worked_out):
         if one != other:
             journey.fail(f"a frame of the report is {one}, and should be {other}")
-    return sum(len(values) // 2 for *_, values in shown) + check_readings(journey, expected, data, reader.tables)
+    return sum(len(values) // 2 for *_, values in shown) + check_readings(journey, expected, reader.tables)
 
 
-def values_of(board, number, frame, data):
-    """Names and values of a frame's messages, alternating."""
-    for entry in board.objects:
-        if entry.record.ipdu == number:
+def values_of(journey, number, frame):
+    """Names and values of the messages that a frame holds, alternating."""
+    for entry in journey.board.objects:
+        if entry.record.ipdu == number and is_held(journey.messages, entry.name, frame):
             yield entry.name
-            yield in_units(data["message"][entry.name], raw_in(data["message"][entry.name], frame))
+            yield in_units(journey.messages[entry.name], raw_in(journey.messages[entry.name], frame))
 
 
-def check_readings(journey, expected, data, tables):
-    """Rows of the readings that are sent or taken, and of the sheet; how many faults and refused calls there are."""
+def check_readings(journey, expected, tables):
+    """Rows of the readings that are sent, taken, or received with no filter, and of the sheet; how many faults and refused calls there are."""
     refused = sum(step.status != 0 and (step.call, step.status) not in (("receive", 3), ("receive", 4)) for step in journey.made)
     bad = sum(expected.counts[kind] for kind in ("no_confirm", "error", "deadline"))
     for name, count in (("refused", refused), ("faults", bad)):
@@ -215,10 +237,9 @@ def check_readings(journey, expected, data, tables):
     sheet = {row[1][0]: row for row in tables.get("sheet", [])[1:]}
     compared = 0
     for entry in journey.board.objects:
-        message = data["message"][entry.name]
-        if entry.record.kind == 2 and entry.record.depth == 0:
+        message, samples = journey.messages[entry.name], samples_of(journey, expected, entry)
+        if samples is None:
             continue
-        samples = samples_of(journey, expected, entry, message)
         values = [min(samples, key=lambda each: each[1]), max(samples, key=lambda each: each[1]), samples[0], samples[-1]] if samples else []
         wanted = [[in_units(message, raw, False), time_of(journey, line)] for line, raw in values] or [["-"]] * 4
         count = int((shown[entry.name][6][0].split()[0]).replace("no", "0").replace(",", ""))
@@ -227,6 +248,8 @@ def check_readings(journey, expected, data, tables):
         texts = [in_units(message, values[place][1]) for place in (2, 3, 0, 1)] if samples else ["-"] * 4
         if entry.record.depth and [cell[0] for cell in sheet[entry.name][2:7]] != [f"{len(samples):,}", *texts]:
             journey.fail(f"the sheet's row of {entry.name} is {sheet[entry.name]}, and should have {len(samples)} and {texts}")
+        if ("do not hold it" in shown[entry.name][6][0]) != ("multiplexor" in message and entry.record.depth > 0 and len(samples) > 0):
+            journey.fail(f"the report is wrong on whether values of {entry.name} are those of frames that do not hold it")
         compared += 1
     return compared
 
@@ -238,23 +261,25 @@ def board_of(file, node):
 
 
 def all_journeys(folder):
-    """(journey, the TOML's data)"""
-    file = os.path.join(folder, "largest.toml")
-    with open(file, "w", encoding="utf-8") as output:
-        output.write(largest())
+    files = [os.path.join(folder, name) for name in ("largest.toml", "pages.toml")]
+    for file, text in zip(files, (largest(), PAGES)):
+        with open(file, "w", encoding="utf-8") as output:
+            output.write(text)
     van_file = os.path.join(TOP, "examples", "van.toml")
-    van, case, big = board_of(van_file, "van"), board_of(van_file, "case"), board_of(file, "van")
+    van, case, big, pages = board_of(van_file, "van"), board_of(van_file, "case"), *(board_of(file, "van") for file in files)
     if (len(big.ipdus), len(big.objects)) != (32, 128):
         fail("largest", f"the table has {len(big.ipdus)} I-PDUs and {len(big.objects)} messages")
     script = contents("examples", "van.script")
     plans = [(f"{LONG} ticks", van, wandering(van, LONG, 1), "A long journey"), ("case", case, wandering(case, 300, 2), "The case"),
+             ("pages", pages, wandering(pages, 200, 4), "Pages"), ("pages by hand", pages, BY_HAND, "Pages"),
              ("largest", big, wandering(big, 40, 3), "Largest"), ("largest, empty", big, "", "Empty"), ("empty", van, "", "Empty"),
              ("never started", van, "tick\nsend 0 450\nconfirm 0 1\ntick\n", "Never"), ("one tick", van, "start\ntick\n", "One tick"),
              ("a line that can't be read", van, "start\nsend 0 500\nno such call\ntick\n", "Cut"), ("no line feed", van, "start\nsend 0 500\ntick", "Cut")]
     plans += [(f"title {place}", van, script, title) for place, title in enumerate(AWKWARD)]
-    data = {id(board): tomllib.loads(text, parse_float=Decimal) for board, text in ((van, contents("examples", "van.toml")), (big, largest()))}
+    data = {id(board): tomllib.loads(text, parse_float=Decimal)
+            for board, text in ((van, contents("examples", "van.toml")), (big, largest()), (pages, PAGES))}
     data[id(case)] = data[id(van)]
-    yield from ((Journey(*plan), data[id(plan[1])]) for plan in [("van", van, script, "Climate van"), *plans])
+    yield from (Journey(*plan, data[id(plan[1])]) for plan in [("van", van, script, "Climate van"), *plans])
 
 
 def check_van(journey):
@@ -266,6 +291,14 @@ def check_van(journey):
         journey.fail(f"the summary is {summary}")
     if journey.svg != contents("docs", "van.svg"):
         journey.fail("docs/van.svg is not what is made now: make it anew with 'tools/journey'")
+
+
+def check_by_hand(journey):
+    """What is drawn of each message in a run of a few frames, two of which do not hold it."""
+    for reading in readings(journey.board, journey.made, journey.states, 9.0):
+        drawn = [value.raw for run in reading.lines for value in run.values]
+        if drawn != DRAWN[reading.entry.name]:
+            journey.fail(f"of {reading.entry.name} {drawn} is drawn, and should be {DRAWN[reading.entry.name]}")
 
 
 # a browser
@@ -303,11 +336,13 @@ def main():
         sys.exit("desk_pictures.py: target/bin/drive is missing: run 'rt check drive' first")
     found, values, count, said = Counter(), 0, 0, ""
     with tempfile.TemporaryDirectory(ignore_cleanup_errors=True) as folder:
-        for journey, data in all_journeys(folder):
+        for journey in all_journeys(folder):
             expected = Expected(journey)
             found += check_svg(journey, expected)
-            values += check_html(journey, expected, data)
+            values += check_html(journey, expected)
             count += 1
+            if journey.name == "pages by hand":
+                check_by_hand(journey)
             if journey.name == "van":
                 check_van(journey)
                 said = browsed(journey, folder)

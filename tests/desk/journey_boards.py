@@ -64,7 +64,7 @@ def random_ipdu(number):
 
 
 def random_messages(ipdu):
-    """Up to four, which share no bits."""
+    """Up to four, which share no bits; a short first one may be the multiplexor of others."""
     taken, messages = set(), []
     while not messages or len(messages) < 4 and random.random() < 0.7:
         size, big, start = random.choice([1, 3, 8, 12, 16, 32]), random.random() < 0.5, random.randrange(8 * ipdu.length)
@@ -74,6 +74,8 @@ def random_messages(ipdu):
             break
         taken |= set(bits.places(start, size, big))
         messages.append(random_message(f"{ipdu.name}_{len(messages)}", ipdu, start, size, big))
+        if len(messages) > 1 and messages[0].bits <= 3 and random.random() < 0.7:
+            messages[-1].multiplexor, messages[-1].multiplexor_value = messages[0], random_raw(messages[0])
     return messages
 
 

@@ -79,15 +79,25 @@ def changes_of(values):
 
 
 def object_values(entry, made, states):
-    """The raw values that are to be seen of an object, one after the other."""
+    """The raw values that are to be seen of an object, one after the other; of a message with a multiplexor those of frames that hold it."""
     if entry.record.kind == SEND and entry.record.ipdu != NONE:
-        return [entry.of.in_frame(frame) for step in made for number, frame in step.requests if number == entry.record.ipdu]
+        return [entry.of.in_frame(frame) for step in made for number, frame in step.requests
+                if number == entry.record.ipdu and entry.of.is_in(frame)]
     if entry.record.kind == SEND:
         sends = [step.numbers for step in made if step.call == "send" and step.is_done]
         return [bits.meant(value % WHOLE, entry.record.signed) for number, value in sends if number == entry.number]
     if entry.record.depth:
         return [step.value for step in made if step.call == "receive" and step.numbers[0] == entry.number and step.is_done]
-    return [state.values[entry.number] for state in states if entry.number in state.values]
+    held = [(step, state.values[entry.number]) for step, state in zip(made, states) if entry.number in state.values]
+    if entry.of.multiplexor is None:
+        return [value for _, value in held]
+    return [value for step, value in held if step.is_done and (step.call == "start" or step.call == "initialise" and step.numbers[0] == entry.number
+                                                               or is_brought(entry, step, value))]
+
+
+def is_brought(entry, step, value):
+    """Whether a step is a frame that holds a message, with this value."""
+    return step.call == "indication" and step.numbers == (entry.record.ipdu, 1) and entry.of.is_in(step.frame) and entry.of.in_frame(step.frame) == value
 
 
 def check_ipdus(read, board, made, met):
@@ -138,6 +148,7 @@ def check_messages(read, board, made, states, met):
             same(f"the VCD's {entry.name} {name}", read.values("message", entry.name, name), marks)
             met["vcd marks"] += len(marks)
         met["vcd values"] += len(shown)
+        met["vcd values of multiplexed messages"] += len(shown) * (entry.of.multiplexor is not None)
 
 
 def check_layer(read, made):

@@ -3,12 +3,97 @@ import random
 from collections import Counter
 from decimal import Decimal
 
+NONE = 255  # no I-PDU
+PAGES = """
+title = 'Pages'
+tick_ms = 50
+nodes = ['van']
+outside = ['case']
+[ipdu.Goes]
+id = 1
+size_in_bytes = 4
+sender = 'van'
+transmission_mode = 'direct'
+deadline_ms = 150
+[ipdu.Comes]
+id = 2
+size_in_bytes = 4
+sender = 'case'
+deadline_ms = 100
+receiver.van = { deadline_ms = 200, first_deadline_ms = 300 }
+[message.Page]
+ipdu = 'Goes'
+start_bit = 0
+size_in_bits = 1
+[message.Warmth]
+ipdu = 'Goes'
+start_bit = 8
+size_in_bits = 8
+factor = 0.5
+unit = '°C'
+initial_value = 20
+minimum = 18
+maximum = 22.5
+multiplexor = 'Page'
+multiplexor_value = 0
+[message.Door]
+ipdu = 'Goes'
+start_bit = 8
+size_in_bits = 2
+values = { 0 = 'closed', 1 = 'open', 2 = 'ajar' }
+multiplexor = 'Page'
+multiplexor_value = 1
+[message.CasePage]
+ipdu = 'Comes'
+start_bit = 0
+size_in_bits = 1
+[message.CaseWarmth]
+ipdu = 'Comes'
+start_bit = 8
+size_in_bits = 8
+factor = 0.5
+unit = '°C'
+maximum = 60
+multiplexor = 'CasePage'
+multiplexor_value = 0
+[message.CaseDoor]
+ipdu = 'Comes'
+start_bit = 8
+size_in_bits = 2
+values = { 0 = 'closed', 1 = 'open', 2 = 'ajar' }
+multiplexor = 'CasePage'
+multiplexor_value = 1
+[message.CaseLock]
+ipdu = 'Comes'
+start_bit = 16
+size_in_bits = 2
+values = { 0 = 'locked', 2 = 'unlocked' }
+multiplexor = 'CasePage'
+multiplexor_value = 1
+receiver.van = { queue_size = 3 }
+[message.CaseShock]
+ipdu = 'Comes'
+start_bit = 24
+size_in_bits = 8
+factor = 0.1
+unit = 'g'
+minimum = 1
+receiver.van = { queue_size = 2 }
+[message.CaseSpare]
+ipdu = 'Comes'
+start_bit = 8
+size_in_bits = 8
+multiplexor = 'CasePage'
+multiplexor_value = 0
+receiver.van = { filter = { algorithm = 'NewIsWithin', min = 100, max = 200 } }
+"""
+
 
 class Expected:
     """Counts of a run, from the calls, the answers, the marks and the records of the table alone; and its frames as (line, I-PDU, bytes)."""
 
     def __init__(self, journey):
-        self.records, self.objects = journey.board.ipdu_records, journey.board.objects
+        self.records, self.objects, self.messages = journey.board.ipdu_records, journey.board.objects, journey.messages
         self.counts = Counter()
         self.frames = []
         self.left, self.waiting = {}, {}
@@ -47,10 +132,10 @@ class Expected:
             self.frames.append((step.line, ipdu, step.frame))
 
     def carry(self, ipdu, frame):
-        """Values that were sent since the last frame, and are not in this one."""
+        """Values that were sent since the last frame that held their message, and are not in this one."""
         for entry in self.objects:
             record = entry.record
-            if record.ipdu == ipdu and entry.number in self.waiting:
+            if record.ipdu == ipdu and entry.number in self.waiting and is_held(self.messages, entry.name, frame):
                 here = walked(frame, record.start, record.bits, record.order % 2 == 1, False)
                 self.counts["given"] += sum(value % 2**record.bits != here for value in self.waiting.pop(entry.number))
 
@@ -90,6 +175,12 @@ def raw_in(message, frame):
     return walked(frame, message["start_bit"], message["size_in_bits"], message.get("byte_order") == "big", message.get("signed", False))
 
 
+def is_held(messages, name, frame):
+    """Whether a frame holds a message, as its multiplexor says."""
+    message = messages[name]
+    return "multiplexor" not in message or raw_in(messages[message["multiplexor"]], frame) == message["multiplexor_value"]
+
+
 def in_units(message, raw, with_unit=True):
     names = message.get("values", {})
     if str(raw) in names:
@@ -99,11 +190,14 @@ def in_units(message, raw, with_unit=True):
     return f"{raw * factor + offset:.{places}f} {message.get('unit', '') if with_unit else ''}".strip()
 
 
-def samples_of(journey, expected, entry, message):
-    """(line, raw value) of each frame with a sent message, or of each receive of a queued one; nothing for others."""
-    if entry.record.kind == 1:
-        return [(line, raw_in(message, frame)) for line, ipdu, frame in expected.frames if ipdu == entry.record.ipdu]
-    return [(step.line, step.value) for step in journey.made if step.call == "receive" and step.numbers[0] == entry.number and step.value is not None]
+def samples_of(journey, expected, entry):
+    """(line, raw value) of each frame that holds a message that is sent, or received with no filter, or of each receive of a queued one; None for others."""
+    if entry.record.depth:
+        return [(step.line, step.value) for step in journey.made if step.call == "receive" and step.numbers[0] == entry.number and step.value is not None]
+    if entry.record.kind == 2 and (entry.record.ipdu == NONE or entry.record.filter):
+        return None
+    return [(line, raw_in(journey.messages[entry.name], frame)) for line, ipdu, frame in expected.frames
+            if ipdu == entry.record.ipdu and is_held(journey.messages, entry.name, frame)]
 
 
 def time_of(journey, line):

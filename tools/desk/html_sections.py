@@ -51,7 +51,8 @@ def tally(reading):
     if not reading.samples:
         return f"no reading {verb}"
     at_least = verb == "arrived" and not reading.passes_all
-    return ("at least " if at_least else "") + f"{counted(len(reading.samples), 'reading')} {verb}"
+    strays = " from a queue, also from frames that do not hold it" if reading.may_have_strays else ""
+    return ("at least " if at_least else "") + f"{counted(len(reading.samples), 'reading')} {verb}{strays}"
 
 
 def reading_rows(readings, clock):
@@ -178,7 +179,7 @@ def frame_table(board, lanes, clock):
     rows = []
     for at, line, direction, number, frame in frames(lanes):
         values = "".join(f"<span class=\"carried\"><i>{escaped(entry.name)}</i> <b>{escaped(entry.scaling.text(entry.of.in_frame(frame)))}</b></span> "
-                         for entry in carried[number])
+                         for entry in carried[number] if entry.of.is_in(frame))
         rows.append([clock.words(at), line, direction, identifier(board.ipdus[number]), board.ipdus[number].name,
                      Markup(f"<code>{frame.hex(' ').upper()}</code>"), Markup(values.rstrip())])
     return table("frames", ["time", "line", "direction", "identifier", "I-PDU", "bytes", "values"], rows, "No frame was sent or received.")

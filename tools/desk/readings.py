@@ -28,7 +28,7 @@ class Run(NamedTuple):
 @dataclass
 class Reading:
     """`lines` are what frames carried or the layer held, a Run from each start on; `dots` what was taken or given; `samples` what counts as a reading:
-    carried by a frame, seen to arrive, or taken. An initial value that nothing carried is none."""
+    carried by a frame that holds the message, seen to arrive with one, or taken. An initial value that nothing carried is none."""
 
     entry: object
     lines: list = field(default_factory=list)
@@ -47,6 +47,11 @@ class Reading:
         return self.entry.record.depth > 0
 
     @property
+    def may_have_strays(self):
+        """Whether values of frames that do not hold the message can't be told from its own."""
+        return self.is_queued and self.entry.of.multiplexor is not None
+
+    @property
     def passes_all(self):
         return self.entry.filter().name == "Always"
 
@@ -61,6 +66,24 @@ class Reading:
         return min(self.samples, key=physical), max(self.samples, key=physical)
 
 
+class Strays:
+    """Follows what unqueued receive objects hold, and tells the values that came with a frame that does not hold their message."""
+
+    def __init__(self):
+        self.raws = {}
+
+    def is_stray(self, entry, step, raw):
+        """Whether an object's value after a step is one of these; to be asked after each step that may change it."""
+        if step.call == "start" or step.call == "initialise" and step.numbers[0] == entry.number:
+            self.raws.pop(entry.number, None)
+        elif step.call == "indication" and step.numbers == (entry.record.ipdu, 1):
+            if not entry.of.is_in(step.frame):
+                self.raws[entry.number] = raw
+            elif entry.of.in_frame(step.frame) == raw:
+                self.raws.pop(entry.number, None)
+        return self.raws.get(entry.number) == raw
+
+
 class Collect:
     """Follows a run and fills the readings of a board."""
 
@@ -69,7 +92,7 @@ class Collect:
         self.readings = [Reading(entry) for entry in board.objects]
         self.carried = [board.carried(number) for number in range(len(board.ipdus))]
         self.open, self.held, self.waiting = {}, {}, {}
-        self.before = None
+        self.strays, self.before = Strays(), None
 
     def start(self, at):
         """Ends what ran before."""
@@ -96,13 +119,15 @@ class Collect:
     def frames(self, step):
         for number, frame in step.requests:
             for entry in self.carried[number]:
+                if not entry.of.is_in(frame):
+                    continue
                 value = Value(step.at, entry.of.in_frame(frame), "carried", step.line)
                 self.open.setdefault(entry.number, []).append(value)
                 self.readings[entry.number].samples.append(value)
                 self.settle(entry, value.raw)
 
     def settle(self, entry, carried):
-        """What was given to sends since the last frame: this one holds the value, cut to its bits, or the value did not go."""
+        """What was given to sends since the last frame that held the message: this one holds the value, cut to its bits, or the value did not go."""
         values = self.waiting.pop(entry.number, [])
         self.readings[entry.number].dots += [value for value in values if (value.raw - carried) % 2**entry.record.bits]
 
@@ -128,7 +153,7 @@ class Collect:
     def hold(self, step, state):
         """What unqueued receive objects hold; a reading where a value arrives, where it is another, or where it was not marked as arrived before."""
         for number, raw in state.values.items():
-            if raw is None:
+            if raw is None or self.strays.is_stray(self.board.objects[number], step, raw):
                 continue
             changed = self.held.get(number) != raw
             value = Value(step.at, raw, "held", step.line)

@@ -6,6 +6,7 @@ import re
 from dataclasses import dataclass, field
 
 from . import bits
+from .readings import Strays
 from .records import NONE, RECEIVE, SEND, WHOLE
 from .run import ARRIVED, RECEIVE_ERROR, SEND_ERROR, SENT, duration
 from .run_log import microseconds
@@ -138,17 +139,19 @@ def draw_ipdu(dump, scope, lane, times):
 
 
 def shown_values(entry, made, news):
-    """Times and raw values that are to be seen of an object: of a send object those in its frames, or where it has no I-PDU those that are sent; of a queue
-    what receives give; else what the layer holds."""
+    """Times and raw values that are to be seen of an object: of a send object those in the frames that hold it, or where it has no I-PDU those that are sent;
+    of a queue what receives give; else what the layer holds, but for what came with a frame that does not hold it."""
     record, number = entry.record, entry.number
     if record.kind == SEND and record.ipdu != NONE:
-        return [(step.at, entry.of.in_frame(frame)) for step in made for ipdu, frame in step.requests if ipdu == record.ipdu]
+        return [(step.at, entry.of.in_frame(frame)) for step in made for ipdu, frame in step.requests
+                if ipdu == record.ipdu and entry.of.is_in(frame)]
     if record.kind == SEND:
         sends = [step for step in made if step.call == "send" and step.is_done and step.numbers[0] == number]
         return [(step.at, bits.meant(step.numbers[1] % WHOLE, record.signed)) for step in sends]
     if record.depth:
         return [(step.at, step.value) for step in made if step.call == "receive" and step.is_done and step.numbers[0] == number]
-    return [(at, state.values[number]) for at, state in news if number in state.values]
+    strays = Strays()
+    return [(step.at, state.values[number]) for step, state in news if number in state.values and not strays.is_stray(entry, step, state.values[number])]
 
 
 def draw_message(dump, scope, entry, made, news, times):
@@ -159,14 +162,14 @@ def draw_message(dump, scope, entry, made, news, times):
             dump.set(times[at], value, entry.scaling.number(shown))
     for name, mark in MARKS[entry.record.kind].items():
         wire = dump.signal(scope, "wire", name)
-        for at, state in news:
+        for step, state in news:
             word = state.marks[entry.number]
-            dump.set(times[at], wire, None if word is None else bool(word & mark))
+            dump.set(times[step.at], wire, None if word is None else bool(word & mark))
 
 
 def new_states(made, states):
-    """The states that were asked for anew, with their times."""
-    return [(step.at, state) for step, state, before in zip(made, states, [None, *states]) if state is not before]
+    """The states that were asked for anew, with their steps."""
+    return [(step, state) for step, state, before in zip(made, states, [None, *states]) if state is not before]
 
 
 def vcd(board, made, states, title):
