@@ -23,7 +23,7 @@ sys.path[:0] = [os.path.join(TOP, "tools"), os.path.join(TOP, "tests", "desk")]
 from desk import html, layer, source, svg
 from desk.run import unread_line
 from desk.readings import readings
-from journeys import PAGES, Expected, in_units, is_held, largest, raw_in, samples_of, time_of, wandering
+from journeys import PAGES, Expected, changes_of, has_names, in_units, is_held, largest, raw_in, samples_of, time_of, wandering
 
 DRIVE = os.path.join(TOP, "target", "bin", "drive")
 SPACE = "{http://www.w3.org/2000/svg}"
@@ -84,6 +84,7 @@ class Journey:
         self.made, self.states = layer.played(board, script, name)
         self.svg = svg.svg(board, self.made, self.states, title)
         self.unread = unread_line(script, self.made)
+        self.ticks = [step.line for step in self.made if step.call == "tick"]
         self.html = html.html(board, self.made, self.states, title, self.unread)
 
     def fail(self, words):
@@ -242,16 +243,35 @@ def check_readings(journey, expected, tables):
             continue
         values = [min(samples, key=lambda each: each[1]), max(samples, key=lambda each: each[1]), samples[0], samples[-1]] if samples else []
         wanted = [[in_units(message, raw, False), time_of(journey, line)] for line, raw in values] or [["-"]] * 4
-        count = int((shown[entry.name][6][0].split()[0]).replace("no", "0").replace(",", ""))
-        if shown[entry.name][1:5] != wanted or count != len(samples):
+        if samples and has_names(message, samples):
+            wanted[:2] = [[", ".join(in_units(message, raw) for raw in dict.fromkeys(raw for _, raw in samples))]]
+        count = int((shown[entry.name][-1][0].split()[0]).replace("no", "0").replace(",", ""))
+        if shown[entry.name][1:-2] != wanted or count != len(samples):
             journey.fail(f"the report's row of {entry.name} is {shown[entry.name]}, and should have {wanted} and {len(samples)}")
-        texts = [in_units(message, values[place][1]) for place in (2, 3, 0, 1)] if samples else ["-"] * 4
+        texts = [numbered(message, values[place][1]) for place in (2, 3, 0, 1)] if samples else ["-"] * 4
         if entry.record.depth and [cell[0] for cell in sheet[entry.name][2:7]] != [f"{len(samples):,}", *texts]:
             journey.fail(f"the sheet's row of {entry.name} is {sheet[entry.name]}, and should have {len(samples)} and {texts}")
-        if ("do not hold it" in shown[entry.name][6][0]) != ("multiplexor" in message and entry.record.depth > 0 and len(samples) > 0):
+        if ("do not hold it" in shown[entry.name][-1][0]) != ("multiplexor" in message and entry.record.depth > 0 and len(samples) > 0):
             journey.fail(f"the report is wrong on whether values of {entry.name} are those of frames that do not hold it")
         compared += 1
-    return compared
+    return compared + check_changes(journey, expected, tables.get("changes", [])[1:])
+
+
+def numbered(message, raw):
+    """As the sheet has it."""
+    return " ".join([str(raw)] * (str(raw) in message.get("values", {})) + [in_units(message, raw)])
+
+
+def check_changes(journey, expected, rows):
+    """Those of the messages whose samples the test knows."""
+    samples = [(entry, samples_of(journey, expected, entry)) for entry in journey.board.objects]
+    named = [(entry, found) for entry, found in samples if found is not None and has_names(journey.messages[entry.name], found)]
+    wanted = sorted(change for entry, found in named for change in changes_of(journey, entry, found))
+    names = [entry.name for entry, _ in named]
+    shown = [[" ".join(cell) for cell in row] for row in rows if row[1][0] in names]
+    if sorted(shown) != sorted(row for _, row in wanted) or [row[0] for row in shown] != [row[0] for _, row in wanted]:
+        journey.fail(f"the report's changes are {shown}, and should be {[row for _, row in wanted]}")
+    return len(shown)
 
 
 # journeys

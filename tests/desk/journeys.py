@@ -1,5 +1,6 @@
 """For tests of pictures and reports: scripts and a network to draw, and what the tests work out of a run themselves, from calls, answers and table."""
 import random
+from bisect import bisect_right
 from collections import Counter
 from decimal import Decimal
 
@@ -77,6 +78,7 @@ start_bit = 24
 size_in_bits = 8
 factor = 0.1
 unit = 'g'
+values = { 255 = 'no sensor' }
 minimum = 1
 receiver.van = { queue_size = 2 }
 [message.CaseSpare]
@@ -200,11 +202,35 @@ def samples_of(journey, expected, entry):
             if ipdu == entry.record.ipdu and is_held(journey.messages, entry.name, frame)]
 
 
+def ticks_to(journey, line):
+    """How many ticks there are up to a line."""
+    return bisect_right(journey.ticks, line)
+
+
+def in_time(journey, ticks):
+    tick = journey.board.network.tick
+    unit, step = ("s", tick / 1000) if (len(journey.ticks) + 1) * tick > 2000 else ("ms", tick)
+    return f"{ticks * step.normalize():f} {unit}"
+
+
 def time_of(journey, line):
-    """The ticks up to a line, as time."""
-    tick, ticks = journey.board.network.tick, [step.line for step in journey.made if step.call == "tick"]
-    unit, step = ("s", tick / 1000) if (len(ticks) + 1) * tick > 2000 else ("ms", tick)
-    return f"at {sum(other <= line for other in ticks) * step.normalize():f} {unit}"
+    return f"at {in_time(journey, ticks_to(journey, line))}"
+
+
+def has_names(message, samples):
+    """Whether what its values mean are names, and not numbers some of which have one."""
+    return "values" in message and ("unit" not in message or all(str(raw) in message["values"] for _, raw in samples))
+
+
+def changes_of(journey, entry, samples):
+    """Rows of the changes of a message: time, name, from, to and how long it stayed; each behind its line."""
+    message = journey.messages[entry.name]
+    found = [(line, before, raw) for (_, before), (line, raw) in zip(samples, samples[1:]) if before != raw]
+    ends = [ticks_to(journey, line) for line, _, _ in found[1:]] + [len(journey.ticks)]
+    for place, ((line, before, raw), end) in enumerate(zip(found, ends), 1):
+        begin = ticks_to(journey, line)
+        last = ", to the end" if place == len(found) else ""
+        yield line, [in_time(journey, begin), entry.name, in_units(message, before), in_units(message, raw), in_time(journey, end - begin) + last]
 
 
 def wandering(board, ticks, seed):

@@ -26,7 +26,7 @@ th{text-align:left;color:#56626c;font-weight:normal;border-bottom:1.5px solid #1
 td{border-bottom:1px solid #dde2e6;padding:4px 10px 4px 0;vertical-align:top}
 tr{break-inside:avoid}
 td small{color:#56626c;white-space:nowrap}
-.readings td,.sheet td,.frames td:first-child,.faults td:first-child,.refused td:first-child{font-variant-numeric:tabular-nums}
+.readings td,.sheet td,.changes td,.frames td:first-child,.faults td:first-child,.refused td:first-child{font-variant-numeric:tabular-nums}
 .readings td b{font-weight:bold;display:inline-block;min-width:3.2em}
 .frames td:nth-child(-n+4),.frames code{white-space:nowrap}
 code,pre{font-family:'DejaVu Sans Mono','Liberation Mono',Consolas,monospace;font-size:12px}
@@ -76,7 +76,8 @@ def facts(board, made, clock, lanes, unread):
         ("Lost values", f"at least {overflows:,}, as receives from a full queue said" if overflows else "none seen", bool(overflows)),
     ]
     rows += [("Empty queues", f"found by {counted(empty, 'receive')}", False)] if empty else []
-    rows += [("Calls refused", f"{number:,} with {refusal(status)}", False) for status, number in sorted(statuses.items())] or [("Calls refused", "none", False)]
+    refusals = [f"{number:,} with {refusal(status)}" for status, number in sorted(statuses.items())]
+    rows += [("Calls refused", words, False) for words in refusals or ["none"]]
     return rows + ([("Script", f"ends at line {unread}, which can't be read", True)] if unread is not None else [])
 
 
@@ -94,10 +95,9 @@ def sentence(reading):
     name, scaling = spaced(reading.entry.name), reading.entry.scaling
     if not reading.samples:
         return f"{name}: {parts.tally(reading)}"
-    raws = dict.fromkeys(value.raw for value in reading.samples)
     least, greatest = reading.extremes()
-    if all(raw in scaling.names for raw in raws):
-        span = joined([scaling.names[raw] for raw in raws])
+    if reading.is_named:
+        span = joined([scaling.text(raw) for raw in reading.seen()])
     elif least.raw == greatest.raw:
         span = f"{reading.text(least)} throughout"
     else:
@@ -117,6 +117,12 @@ def summary(board, scene, made):
     return "<ul class=\"summary\">\n" + "".join(f"<li>{escaped(line)}</li>\n" for line in lines) + "</ul>\n"
 
 
+def changes_section(readings, clock):
+    """Left out where no reading has named values."""
+    found = parts.changes(readings)
+    return [parts.folded("Changes", len(found), parts.change_table(found, clock))] if any(reading.is_named for reading in readings) else []
+
+
 def picture_section(scene, title):
     """On pages of its own in print."""
     figures = "".join(f"<figure class=\"picture\">\n{drawing}</figure>\n" for drawing in pictures(scene, title))
@@ -132,6 +138,7 @@ def html(board, made, states, title, unread=None):
         parts.section("Summary", summary(board, scene, made)),
         parts.section("Readings", "<p>A frame carries the latest value of each of its messages, at first the initial one. Times are those of the tick "
                       "before.</p>\n" + parts.reading_table(scene.readings, clock)),
+        *changes_section(scene.readings, clock),
         parts.section("Sheet", parts.sheet_table(board, made)),
         picture_section(scene, title),
         parts.section("Missed deadlines and errors", parts.fault_table(board, lanes, clock)),

@@ -14,8 +14,13 @@ class Markup(str):
     """Text that is HTML already."""
 
 
+class Wide(Markup):
+    """HTML that stands in two columns."""
+
+
 def cell(content):
-    return content if isinstance(content, Markup) else escaped(content)
+    columns = " colspan=\"2\"" if isinstance(content, Wide) else ""
+    return f"<td{columns}>{content if isinstance(content, Markup) else escaped(content)}</td>"
 
 
 def table(kind, heads, rows, nothing):
@@ -23,7 +28,7 @@ def table(kind, heads, rows, nothing):
     if not rows:
         return f"<p>{escaped(nothing)}</p>\n"
     head = "".join(f"<th scope=\"col\">{escaped(name)}</th>" for name in heads)
-    body = "".join("<tr>" + "".join(f"<td>{cell(content)}</td>" for content in row) + "</tr>\n" for row in rows)
+    body = "".join("<tr>" + "".join(map(cell, row)) + "</tr>\n" for row in rows)
     return f"<table class=\"{kind}\">\n<thead><tr>{head}</tr></thead>\n<tbody>\n{body}</tbody>\n</table>\n"
 
 
@@ -62,19 +67,44 @@ def reading_rows(readings, clock):
         if not reading.samples:
             rows.append([name, "-", "-", "-", "-", reading.entry.scaling.unit, tally(reading)])
             continue
-        values = [*reading.extremes(), reading.samples[0], reading.samples[-1]]
-        rows.append([name, *(shown_at(reading, value, clock) for value in values), reading.entry.scaling.unit, tally(reading)])
+        span = [names_seen(reading)] if reading.is_named else [shown_at(reading, value, clock) for value in reading.extremes()]
+        ends = [shown_at(reading, value, clock) for value in (reading.samples[0], reading.samples[-1])]
+        rows.append([name, *span, *ends, reading.entry.scaling.unit, tally(reading)])
     return rows
+
+
+def names_seen(reading):
+    return Wide(escaped(", ".join(without_unit(reading.entry.scaling, raw) for raw in reading.seen())))
 
 
 def reading_table(readings, clock):
     return table("readings", ["reading", "least", "greatest", "first", "last", "unit", "how many"], reading_rows(readings, clock), "The node has no messages.")
 
 
+def changes(readings):
+    """(reading, the value before, the value, the next change or None) of readings with named values, in the order of time."""
+    found = [(reading, *change) for reading in readings if reading.is_named for change in reading.changes()]
+    return sorted(found, key=lambda change: change[2].line)
+
+
+def change_table(found, clock):
+    rows = []
+    for reading, before, value, following in found:
+        ticks = int(following.at if following else clock.ticks - 1) - int(value.at)
+        stayed = clock.words(ticks) + ("" if following else ", to the end")
+        rows.append([clock.words(value.at), reading.entry.name, *(without_unit(reading.entry.scaling, each.raw) for each in (before, value)), stayed])
+    return table("changes", ["time", "reading", "from", "to", "stayed"], rows, "No reading with named values changed.")
+
+
+def numbered(entry, value):
+    """A value of the sheet; one with a name as number and name, since least and greatest are those of the numbers."""
+    return f"{value} {entry.scaling.names[value]}" if value in entry.scaling.names else entry.text(value)
+
+
 def sheet_table(board, made):
     rows = []
     for row in sheet(board, made):
-        values = ["-" if value is None else row.entry.text(value) for value in (row.first, row.last, row.least, row.greatest)]
+        values = ["-" if value is None else numbered(row.entry, value) for value in (row.first, row.last, row.least, row.greatest)]
         rows.append([row.entry.number, row.entry.name, f"{row.drained:,}", *values, f"{row.overflows:,}", f"{row.errors:,}"])
     return table("sheet", ["number", "message", "drained", "first", "last", "least", "greatest", "overflows", "errors"], rows, "The node has no queue.")
 

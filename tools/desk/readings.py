@@ -55,6 +55,22 @@ class Reading:
     def passes_all(self):
         return self.entry.filter().name == "Always"
 
+    @property
+    def is_named(self):
+        """Whether its values are names in the place of numbers, and not numbers some of which have a name."""
+        scaling = self.entry.scaling
+        is_plain = not scaling.unit and scaling.physical(1) == 1 and scaling.physical(0) == 0
+        return bool(scaling.names) and (is_plain or all(value.raw in scaling.names for value in self.samples))
+
+    def seen(self):
+        """The raw values of the samples, in the order in which they came first."""
+        return list(dict.fromkeys(value.raw for value in self.samples))
+
+    def changes(self):
+        """Samples that differ from the one before: (the one before, the sample, the next change or None)."""
+        pairs = [(before, value) for before, value in zip(self.samples, self.samples[1:]) if before.raw != value.raw]
+        return [(*pair, following) for pair, following in zip(pairs, [*(value for _, value in pairs[1:]), None])]
+
     def raws(self):
         """All values that a picture shows."""
         return [value.raw for run in self.lines for value in run.values] + [value.raw for value in self.dots]
