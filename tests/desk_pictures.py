@@ -15,26 +15,25 @@ import tomllib
 import xml.etree.ElementTree as ElementTree
 from collections import Counter
 from decimal import Decimal
-from html.parser import HTMLParser
 
 sys.dont_write_bytecode = True
 TOP = os.path.join(os.path.dirname(os.path.abspath(__file__)), "..")
 sys.path[:0] = [os.path.join(TOP, "tools"), os.path.join(TOP, "tests", "desk")]
 from desk import html, layer, source, svg
-from desk.run import unread_line
 from desk.readings import readings
-from journeys import PAGES, Expected, changes_of, has_names, in_units, is_held, largest, raw_in, samples_of, time_of, wandering
+from desk.run import unread_line
+from journeys import PAGES, Expected, largest, wandering
+from report_checks import check_html, check_references
 
 DRIVE = os.path.join(TOP, "target", "bin", "drive")
 SPACE = "{http://www.w3.org/2000/svg}"
 KINDS = ["request", "confirm", "no_confirm", "indication", "error", "deadline", "given", "taken", "lost", "marked"]
-VOID = {"meta", "br"}
+MET = ["values left in a queue", "values left in a queue and lost", "an empty queue", "a change"]
 LEAST_TEXT = 9
 MOST_WIDTH = 2000
 AWKWARD = ["<&\">'", "Überführung der Gemälde, 12 °C", "A " + "very " * 200 + "long title", "W" * 500, "", "tab\tand\nline\x07bell", "貸出品の輸送",
            "]]>--><!--</svg></style>"]
 SECONDS = 30  # of a browser, at most
-OUTSIDE = re.compile(r"https?:|//|@import|<script|<link|<image|<img|<iframe|<object|\bhref|\bsrc=|<!ENTITY|javascript:")
 IN_A_TIP = 8  # frames that a tip has the bytes of, at most
 LONG = 5000  # ticks
 # Of the van, worked out by hand from its script and what it prints.
@@ -43,7 +42,8 @@ SUMMARY = ["Front humidity: 45.0 to 61.4 %, last 50.1 %, 7 readings sent", "Rear
            "Shock: 0.07 to 0.08 g, last 0.08 g, 2 readings taken", "Wanted humidity: 51.2 to 55.0 %, last 51.2 %, at least 3 readings arrived",
            "Front display: 45.0 to 61.4 %, last 50.1 %, 7 readings arrived", "Freezer: -21 to -2 °C, last -2 °C, 10 readings sent",
            "Freezer display: -41 to -21 °C, last -41 °C, 2 readings arrived", "Case freezer: -14 to 0 °C, last -14 °C, at least 2 readings arrived",
-           "I-PDU Humidity: 1 deadline missed", "I-PDU Case: 6 deadlines missed", "Shock: values were lost, at least 1"]
+           "I-PDU Humidity: 1 deadline missed", "I-PDU Case: 6 deadlines missed", "Shock: values were lost, at least 1",
+           "Shock: values wait in its queue that nobody took"]
 
 # Of the network with pages: a frame for one page, one for the other, and again, with sends of both pages.
 BY_HAND = """start
@@ -125,18 +125,6 @@ def check_svg(journey, expected):
     return found
 
 
-def check_references(journey, what, text, root):
-    """No address, script, style sheet or file of elsewhere."""
-    ids = {element.get("id") for element in root.iter()} if root is not None else set(re.findall(" id=\"([^\"]*)\"", text))
-    for target in re.findall(r"url\(([^)]*)\)", text):
-        if target[0] != "#" or target[1:] not in ids:
-            journey.fail(f"{what} refers to {target}")
-    rest = text.replace("xmlns=\"http://www.w3.org/2000/svg\"", "")
-    found = OUTSIDE.search(re.sub(r">[^<]*</(?:text|title|h1|td|li|dd)>", "", rest))
-    if found:
-        journey.fail(f"{what} has {found[0]!r}")
-
-
 def check_texts(journey, root):
     """Texts are large enough, inside the picture and not on each other."""
     right, bottom = (float(number) for number in root.get("viewBox").split()[2:])
@@ -155,123 +143,6 @@ def check_texts(journey, root):
                 break
             if left < other[3] and other[2] < end:
                 journey.fail(f"the texts {words!r} and {other[4]!r} lie on each other, at {left:.0f}, {top:.0f} and {other[2]:.0f}, {other[0]:.0f}")
-
-
-# reports
-
-class Reader(HTMLParser):
-    """Checks that tags are closed, and gathers the cells of tables by their class, and the text."""
-
-    def __init__(self, journey):
-        super().__init__()
-        self.journey, self.open, self.tables, self.words, self.ids = journey, [], {}, [], Counter()
-        self.rows = None
-
-    def handle_starttag(self, tag, attributes):
-        values = dict(attributes)
-        self.ids[values.get("id")] += 1
-        if tag not in VOID:
-            self.open.append(tag)
-        if tag == "table":
-            self.rows = self.tables.setdefault(values["class"], [])
-        elif tag == "tr":
-            self.rows.append([])
-        elif tag in ("td", "th"):
-            self.rows[-1].append([])
-
-    def handle_startendtag(self, tag, attributes):
-        self.ids[dict(attributes).get("id")] += 1
-
-    def handle_endtag(self, tag):
-        if not self.open or self.open.pop() != tag:
-            self.journey.fail(f"the report closes <{tag}> where it is not open, at {self.getpos()}")
-
-    def handle_data(self, data):
-        self.words.append(data)
-        if {"td", "th"} & set(self.open) and data.strip():
-            self.rows[-1][-1].append(data.strip())
-
-
-def check_html(journey, expected):
-    reader = Reader(journey)
-    reader.feed(journey.html)
-    reader.close()
-    if reader.open or not journey.html.startswith("<!DOCTYPE html>\n<html lang=\"en\">"):
-        journey.fail(f"the report leaves {reader.open} open")
-    twice = [name for name, count in reader.ids.items() if name and count > 1]
-    if twice:
-        journey.fail(f"the report has {twice} as an id twice")
-    check_references(journey, "the report", journey.html, None)
-    if ("The layer was never started" in journey.html) == any(step.call == "start" for step in journey.made):
-        journey.fail("the report is wrong on whether there was a start")
-    cut = re.findall("ends at line ([0-9]+), which", journey.html)
-    if cut != (["3"] if journey.title == "Cut" else []):
-        journey.fail(f"the report says of lines that can't be read: {cut}")
-    rows = reader.tables.get("frames", [[]])[1:]
-    if len(rows) != len(expected.frames):
-        journey.fail(f"the report has {len(rows)} frames, the run {len(expected.frames)}")
-    shown = sorted((int(row[1][0]), row[4][0], row[5][0], tuple(row[6])) for row in rows)
-    worked_out = sorted((line, ipdu.name, frame.hex(" ").upper(), tuple(values_of(journey, number, frame)))
-                        for line, number, frame in expected.frames for ipdu in [journey.board.ipdus[number]])
-    for one, other in zip(shown, worked_out):
-        if one != other:
-            journey.fail(f"a frame of the report is {one}, and should be {other}")
-    return sum(len(values) // 2 for *_, values in shown) + check_readings(journey, expected, reader.tables)
-
-
-def values_of(journey, number, frame):
-    """Names and values of the messages that a frame holds, alternating."""
-    for entry in journey.board.objects:
-        if entry.record.ipdu == number and is_held(journey.messages, entry.name, frame):
-            yield entry.name
-            yield in_units(journey.messages[entry.name], raw_in(journey.messages[entry.name], frame))
-
-
-def check_readings(journey, expected, tables):
-    """Rows of the readings that are sent, taken, or received with no filter, and of the sheet; how many faults and refused calls there are."""
-    refused = sum(step.status != 0 and (step.call, step.status) not in (("receive", 3), ("receive", 4)) for step in journey.made)
-    bad = sum(expected.counts[kind] for kind in ("no_confirm", "error", "deadline"))
-    for name, count in (("refused", refused), ("faults", bad)):
-        if max(0, len(tables.get(name, [])) - 1) != count:
-            journey.fail(f"the report's table {name} has not {count} rows")
-    shown = {row[0][0]: row for row in tables["readings"][1:]}
-    sheet = {row[1][0]: row for row in tables.get("sheet", [])[1:]}
-    compared = 0
-    for entry in journey.board.objects:
-        message, samples = journey.messages[entry.name], samples_of(journey, expected, entry)
-        if samples is None:
-            continue
-        values = [min(samples, key=lambda each: each[1]), max(samples, key=lambda each: each[1]), samples[0], samples[-1]] if samples else []
-        wanted = [[in_units(message, raw, False), time_of(journey, line)] for line, raw in values] or [["-"]] * 4
-        if samples and has_names(message, samples):
-            wanted[:2] = [[", ".join(in_units(message, raw) for raw in dict.fromkeys(raw for _, raw in samples))]]
-        count = int((shown[entry.name][-1][0].split()[0]).replace("no", "0").replace(",", ""))
-        if shown[entry.name][1:-2] != wanted or count != len(samples):
-            journey.fail(f"the report's row of {entry.name} is {shown[entry.name]}, and should have {wanted} and {len(samples)}")
-        texts = [numbered(message, values[place][1]) for place in (2, 3, 0, 1)] if samples else ["-"] * 4
-        if entry.record.depth and [cell[0] for cell in sheet[entry.name][2:7]] != [f"{len(samples):,}", *texts]:
-            journey.fail(f"the sheet's row of {entry.name} is {sheet[entry.name]}, and should have {len(samples)} and {texts}")
-        if ("do not hold it" in shown[entry.name][-1][0]) != ("multiplexor" in message and entry.record.depth > 0 and len(samples) > 0):
-            journey.fail(f"the report is wrong on whether values of {entry.name} are those of frames that do not hold it")
-        compared += 1
-    return compared + check_changes(journey, expected, tables.get("changes", [])[1:])
-
-
-def numbered(message, raw):
-    """As the sheet has it."""
-    return " ".join([str(raw)] * (str(raw) in message.get("values", {})) + [in_units(message, raw)])
-
-
-def check_changes(journey, expected, rows):
-    """Those of the messages whose samples the test knows."""
-    samples = [(entry, samples_of(journey, expected, entry)) for entry in journey.board.objects]
-    named = [(entry, found) for entry, found in samples if found is not None and has_names(journey.messages[entry.name], found)]
-    wanted = sorted(change for entry, found in named for change in changes_of(journey, entry, found))
-    names = [entry.name for entry, _ in named]
-    shown = [[" ".join(cell) for cell in row] for row in rows if row[1][0] in names]
-    if sorted(shown) != sorted(row for _, row in wanted) or [row[0] for row in shown] != [row[0] for _, row in wanted]:
-        journey.fail(f"the report's changes are {shown}, and should be {[row for _, row in wanted]}")
-    return len(shown)
 
 
 # journeys
@@ -354,12 +225,12 @@ def output_of(journey, command):
 def main():
     if not os.path.exists(DRIVE):
         sys.exit("desk_pictures.py: target/bin/drive is missing: run 'rt check drive' first")
-    found, values, count, said = Counter(), 0, 0, ""
+    found, met, values, count, said = Counter(), Counter(), 0, 0, ""
     with tempfile.TemporaryDirectory(ignore_cleanup_errors=True) as folder:
         for journey in all_journeys(folder):
             expected = Expected(journey)
             found += check_svg(journey, expected)
-            values += check_html(journey, expected)
+            values += check_html(journey, expected, met)
             count += 1
             if journey.name == "pages by hand":
                 check_by_hand(journey)
@@ -367,6 +238,7 @@ def main():
                 check_van(journey)
                 said = browsed(journey, folder)
     never = [kind for kind in [*KINDS, "state", "value", "started", "several", "dense"] if not found[kind]]
+    never += [kind for kind in MET if not met[kind]]
     if never or not values:
         fail("all journeys", f"never met: {never}, values {values}")
     marks = sum(found[kind] for kind in KINDS)

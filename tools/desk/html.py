@@ -2,7 +2,7 @@
 from collections import Counter
 
 from . import html_sections as parts
-from .report_words import escaped, is_empty, lost, refusal, refused, spaced, titled
+from .report_words import escaped, is_empty, left_in_queues, left_words, lost, refusal, refused, spaced, titled
 from .svg import Scene, pictures
 from .words import counted, joined
 
@@ -62,19 +62,21 @@ PROVED = ("The values, marks and requests of this page are the answers of the pr
           "tested, not proved.")
 
 
-def facts(board, made, clock, lanes, unread):
+def facts(board, made, states, clock, lanes, unread):
     """(name, words, whether it is bad) for the head."""
     count = Counter(event.what for lane in lanes for event in lane.events)
     statuses, empty = Counter(step.status for step in refused(made)), sum(map(is_empty, made))
-    missed, overflows = count["deadline"], len(lost(made))
+    left = left_in_queues(states)
+    missed, overflows = count["deadline"], len(lost(made)) + sum(was_lost for _, was_lost in left)
     rows = [
         ("Network", board.network.title, False), ("Node", board.node, False), ("Tick", f"{board.network.milliseconds(1)} ms", False),
         ("Length", f"{clock.length()}, {counted(clock.ticks - 1, 'tick')}", False), ("Calls", f"{len(made):,}", False),
         ("Frames sent", f"{count['request']:,} requested; {count['confirm']:,} confirmed, {count['no_confirm']:,} not sent", False),
         ("Frames received", f"{count['indication']:,} good, {count['error']:,} with an error", False),
         ("Deadlines missed", f"{missed:,}" if missed else "none", bool(missed)),
-        ("Lost values", f"at least {overflows:,}, as receives from a full queue said" if overflows else "none seen", bool(overflows)),
+        ("Lost values", f"at least {overflows:,}, as receives and the queues at the end said" if overflows else "none seen", bool(overflows)),
     ]
+    rows += [("Queues at the end", f"{board.object_name(number)}: {left_words(was_lost)}", True) for number, was_lost in left]
     rows += [("Empty queues", f"found by {counted(empty, 'receive')}", False)] if empty else []
     refusals = [f"{number:,} with {refusal(status)}" for status, number in sorted(statuses.items())]
     rows += [("Calls refused", words, False) for words in refusals or ["none"]]
@@ -105,7 +107,7 @@ def sentence(reading):
     return f"{name}: {span}, last {reading.text(reading.samples[-1])}, {parts.tally(reading)}"
 
 
-def summary(board, scene, made):
+def summary(board, scene, made, states):
     """The journey in plain words, a line for each reading and each trouble."""
     missed = Counter(lane.number for lane in scene.lanes for event in lane.events if event.what == "deadline")
     lines = [] if scene.starts else ["The layer was never started"]
@@ -114,6 +116,7 @@ def summary(board, scene, made):
     lines += [] if missed else ["No deadline was missed"]
     overflows = Counter(step.numbers[0] for step in lost(made))
     lines += [f"{spaced(board.object_name(number))}: values were lost, at least {count}" for number, count in overflows.items()]
+    lines += [f"{spaced(board.object_name(number))}: {left_words(was_lost)}" for number, was_lost in left_in_queues(states)]
     return "<ul class=\"summary\">\n" + "".join(f"<li>{escaped(line)}</li>\n" for line in lines) + "</ul>\n"
 
 
@@ -134,8 +137,8 @@ def html(board, made, states, title, unread=None):
     title, scene = titled(title), Scene(board, made, states)
     clock, lanes = scene.clock, scene.lanes
     sections = [
-        head(title, facts(board, made, clock, lanes, unread)),
-        parts.section("Summary", summary(board, scene, made)),
+        head(title, facts(board, made, states, clock, lanes, unread)),
+        parts.section("Summary", summary(board, scene, made, states)),
         parts.section("Readings", "<p>A frame carries the latest value of each of its messages, at first the initial one. Times are those of the tick "
                       "before.</p>\n" + parts.reading_table(scene.readings, clock)),
         *changes_section(scene.readings, clock),

@@ -34,16 +34,32 @@ def drive(program, table, script):
 
 @dataclass
 class Answers:
-    """After a step: the marks of each object, and of each unqueued receive object the value that it holds; None where the layer is stopped."""
+    """After a step: the marks of each object, of each unqueued receive object the value that it holds, None where the layer is stopped; and of each queued one
+    what a status answers, which changes nothing: 0 values wait, LIMIT values wait and one was lost, NO_MESSAGE none waits."""
 
     marks: list
     values: dict
+    statuses: dict
 
 
-def questions(board):
+class Questions:
     """The lines that ask for all that is in Answers."""
-    unqueued = [entry.number for entry in board.objects if entry.record.kind == RECEIVE and entry.record.depth == 0]
-    return [f"marks {entry.number}" for entry in board.objects] + [f"receive {number}" for number in unqueued], unqueued
+
+    def __init__(self, board):
+        received = [entry for entry in board.objects if entry.record.kind == RECEIVE]
+        self.objects = len(board.objects)
+        self.unqueued = [entry.number for entry in received if entry.record.depth == 0]
+        self.queued = [entry.number for entry in received if entry.record.depth]
+        self.lines = [f"marks {number}" for number in range(self.objects)] + [f"receive {number}" for number in self.unqueued]
+        self.lines += [f"status {number}" for number in self.queued]
+
+    def answers(self, printed):
+        """From what drive printed for the lines."""
+        values = [text.split(" val ") for text in printed]
+        words = [int(value[1]) if len(value) == 2 else None for value in values]
+        queues_at = self.objects + len(self.unqueued)
+        return Answers(words[:self.objects], dict(zip(self.unqueued, words[self.objects:queues_at])),
+                       dict(zip(self.queued, (int(value[0]) for value in values[queues_at:]))))
 
 
 def played(board, script, script_file, program=DRIVE):
@@ -52,21 +68,19 @@ def played(board, script, script_file, program=DRIVE):
     alone = drive(program, board.table, script)
     made = steps(script, script_file, alone, "what drive prints")
     lines = script.split("\n")[:len(made)]
-    asked, unqueued = questions(board)
+    questions = Questions(board)
     mixed, asks = [], []
     for text, step in zip(lines, made):
         mixed.append(text)
         asks.append(step.is_done and step.call in MAY_CHANGE)
         if asks[-1]:
-            mixed += asked
+            mixed += questions.lines
     answers = iter(drive(program, board.table, "".join(line + "\n" for line in mixed)).split("\n"))
-    states, last = [], Answers([None] * len(board.objects), {})
+    states, last = [], Answers([None] * len(board.objects), {}, {})
     for step, printed, asks_now in zip(made, alone.split("\n"), asks):
         if next(answers) != printed:
-            raise wrong(script_file, f"line {step.line}", "is answered otherwise where marks and values are asked for between the calls")
+            raise wrong(script_file, f"line {step.line}", "is answered otherwise where marks, values and statuses are asked for between the calls")
         if asks_now:
-            values = [next(answers).split(" val ") for _ in asked]
-            words = [int(value[1]) if len(value) == 2 else None for value in values]
-            last = Answers(words[:len(board.objects)], dict(zip(unqueued, words[len(board.objects):])))
+            last = questions.answers([next(answers) for _ in questions.lines])
         states.append(last)
     return made, states

@@ -2,7 +2,7 @@
 import re
 from html import escape
 
-from .run import ARRIVED, LIMIT, NO_MESSAGE, RECEIVE_ERROR, SEND_ERROR, SENT, duration
+from .run import ARRIVED, DONE, LIMIT, NO_MESSAGE, RECEIVE_ERROR, SEND_ERROR, SENT, duration
 
 # docs/SCRIPT.md's answers, those that refuse a call.
 REFUSALS = {
@@ -74,6 +74,16 @@ def is_empty(step):
 def refused(made):
     """The calls that were refused, but for receives from an empty queue."""
     return [step for step in made if not step.is_done and not is_empty(step)]
+
+
+def left_in_queues(states):
+    """(an object's number, whether a value of its queue was lost and no receive said so) of the queues with values at the end."""
+    statuses = states[-1].statuses if states else {}
+    return [(number, status == LIMIT) for number, status in statuses.items() if status in (DONE, LIMIT)]
+
+
+def left_words(was_lost):
+    return "values wait in its queue that nobody took" + (", and values were lost" if was_lost else "")
 
 
 def lost(made):

@@ -1,0 +1,163 @@
+"""For the test of reports: a report is read back, and its tables, head and summary are compared with what the test works out of the run itself."""
+import re
+from collections import Counter
+from html.parser import HTMLParser
+
+from desk.layer import DRIVE, drive
+from journeys import changes_of, has_names, in_units, is_held, raw_in, samples_of, time_of
+
+VOID = {"meta", "br"}
+OUTSIDE = re.compile(r"https?:|//|@import|<script|<link|<image|<img|<iframe|<object|\bhref|\bsrc=|<!ENTITY|javascript:")
+
+
+def check_references(journey, what, text, root):
+    """No address, script, style sheet or file of elsewhere."""
+    ids = {element.get("id") for element in root.iter()} if root is not None else set(re.findall(" id=\"([^\"]*)\"", text))
+    for target in re.findall(r"url\(([^)]*)\)", text):
+        if target[0] != "#" or target[1:] not in ids:
+            journey.fail(f"{what} refers to {target}")
+    rest = text.replace("xmlns=\"http://www.w3.org/2000/svg\"", "")
+    found = OUTSIDE.search(re.sub(r">[^<]*</(?:text|title|h1|td|li|dd)>", "", rest))
+    if found:
+        journey.fail(f"{what} has {found[0]!r}")
+
+
+class Reader(HTMLParser):
+    """Checks that tags are closed, and gathers the cells of tables by their class, and the text."""
+
+    def __init__(self, journey):
+        super().__init__()
+        self.journey, self.open, self.tables, self.words, self.ids = journey, [], {}, [], Counter()
+        self.rows = None
+
+    def handle_starttag(self, tag, attributes):
+        values = dict(attributes)
+        self.ids[values.get("id")] += 1
+        if tag not in VOID:
+            self.open.append(tag)
+        if tag == "table":
+            self.rows = self.tables.setdefault(values["class"], [])
+        elif tag == "tr":
+            self.rows.append([])
+        elif tag in ("td", "th"):
+            self.rows[-1].append([])
+
+    def handle_startendtag(self, tag, attributes):
+        self.ids[dict(attributes).get("id")] += 1
+
+    def handle_endtag(self, tag):
+        if not self.open or self.open.pop() != tag:
+            self.journey.fail(f"the report closes <{tag}> where it is not open, at {self.getpos()}")
+
+    def handle_data(self, data):
+        self.words.append(data)
+        if {"td", "th"} & set(self.open) and data.strip():
+            self.rows[-1][-1].append(data.strip())
+
+
+def check_html(journey, expected, met):
+    """How many values were compared; `met` counts kinds of cases."""
+    reader = Reader(journey)
+    reader.feed(journey.html)
+    reader.close()
+    if reader.open or not journey.html.startswith("<!DOCTYPE html>\n<html lang=\"en\">"):
+        journey.fail(f"the report leaves {reader.open} open")
+    twice = [name for name, count in reader.ids.items() if name and count > 1]
+    if twice:
+        journey.fail(f"the report has {twice} as an id twice")
+    check_references(journey, "the report", journey.html, None)
+    if ("The layer was never started" in journey.html) == any(step.call == "start" for step in journey.made):
+        journey.fail("the report is wrong on whether there was a start")
+    cut = re.findall("ends at line ([0-9]+), which", journey.html)
+    if cut != (["3"] if journey.title == "Cut" else []):
+        journey.fail(f"the report says of lines that can't be read: {cut}")
+    rows = reader.tables.get("frames", [[]])[1:]
+    if len(rows) != len(expected.frames):
+        journey.fail(f"the report has {len(rows)} frames, the run {len(expected.frames)}")
+    shown = sorted((int(row[1][0]), row[4][0], row[5][0], tuple(row[6])) for row in rows)
+    worked_out = sorted((line, ipdu.name, frame.hex(" ").upper(), tuple(values_of(journey, number, frame)))
+                        for line, number, frame in expected.frames for ipdu in [journey.board.ipdus[number]])
+    for one, other in zip(shown, worked_out):
+        if one != other:
+            journey.fail(f"a frame of the report is {one}, and should be {other}")
+    return sum(len(values) // 2 for *_, values in shown) + check_readings(journey, expected, reader.tables, met)
+
+
+def values_of(journey, number, frame):
+    """Names and values of the messages that a frame holds, alternating."""
+    for entry in journey.board.objects:
+        if entry.record.ipdu == number and is_held(journey.messages, entry.name, frame):
+            yield entry.name
+            yield in_units(journey.messages[entry.name], raw_in(journey.messages[entry.name], frame))
+
+
+def check_readings(journey, expected, tables, met):
+    """Rows of the readings that are sent, taken, or received with no filter, and of the sheet; how many faults and refused calls there are."""
+    refused = sum(step.status != 0 and (step.call, step.status) not in (("receive", 3), ("receive", 4)) for step in journey.made)
+    bad = sum(expected.counts[kind] for kind in ("no_confirm", "error", "deadline"))
+    for name, count in (("refused", refused), ("faults", bad)):
+        if max(0, len(tables.get(name, [])) - 1) != count:
+            journey.fail(f"the report's table {name} has not {count} rows")
+    shown = {row[0][0]: row for row in tables["readings"][1:]}
+    sheet = {row[1][0]: row for row in tables.get("sheet", [])[1:]}
+    compared = 0
+    for entry in journey.board.objects:
+        message, samples = journey.messages[entry.name], samples_of(journey, expected, entry)
+        if samples is None:
+            continue
+        values = [min(samples, key=lambda each: each[1]), max(samples, key=lambda each: each[1]), samples[0], samples[-1]] if samples else []
+        wanted = [[in_units(message, raw, False), time_of(journey, line)] for line, raw in values] or [["-"]] * 4
+        if samples and has_names(message, samples):
+            wanted[:2] = [[", ".join(in_units(message, raw) for raw in dict.fromkeys(raw for _, raw in samples))]]
+        count = int((shown[entry.name][-1][0].split()[0]).replace("no", "0").replace(",", ""))
+        if shown[entry.name][1:-2] != wanted or count != len(samples):
+            journey.fail(f"the report's row of {entry.name} is {shown[entry.name]}, and should have {wanted} and {len(samples)}")
+        texts = [numbered(message, values[place][1]) for place in (2, 3, 0, 1)] if samples else ["-"] * 4
+        if entry.record.depth and [cell[0] for cell in sheet[entry.name][2:7]] != [f"{len(samples):,}", *texts]:
+            journey.fail(f"the sheet's row of {entry.name} is {sheet[entry.name]}, and should have {len(samples)} and {texts}")
+        if ("do not hold it" in shown[entry.name][-1][0]) != ("multiplexor" in message and entry.record.depth > 0 and len(samples) > 0):
+            journey.fail(f"the report is wrong on whether values of {entry.name} are those of frames that do not hold it")
+        compared += 1
+    check_queues(journey, met)
+    changes = check_changes(journey, expected, tables.get("changes", [])[1:])
+    met["a change"] += changes
+    return compared + changes
+
+
+def check_queues(journey, met):
+    """What the head and the summary say of queues, beside what drive answers to a status of each at the end, or before the last stop."""
+    lines = journey.script.split("\n")[:len(journey.made)]
+    stops = [place for place, step in enumerate(journey.made) if step.call in ("start", "stop") and step.status == 0]
+    end = stops[-1] if stops and journey.made[stops[-1]].call == "stop" else len(lines)
+    queued = [entry for entry in journey.board.objects if entry.record.depth]
+    asked = [*lines[:end], *(f"status {entry.number}" for entry in queued)]
+    answers = drive(DRIVE, journey.board.table, "".join(line + "\n" for line in asked)).split("\n")[end:-1]
+    words = {"0": ": values wait in its queue that nobody took", "3": ": values wait in its queue that nobody took, and values were lost"}
+    left = [(entry.name, words[answer]) for entry, answer in zip(queued, answers, strict=True) if answer in words]
+    head = re.findall("<dd class=\"bad\">(.*)(: values wait .*)</dd>", journey.html)
+    summary = re.findall("<li>.*(: values wait .*)</li>", journey.html)
+    if head != left or summary != [words for _, words in left]:
+        journey.fail(f"the report says of queues {head} and {summary}, and should say {left}")
+    lost = sum(step.call == "receive" and step.status == 3 for step in journey.made) + answers.count("3")
+    said = re.findall("<dt>Lost values</dt><dd.*>(?:at least )?(none seen|[0-9,]*[0-9])", journey.html)
+    if said != [f"{lost:,}" if lost else "none seen"]:
+        journey.fail(f"the report says of lost values {said}, and should say {lost}")
+    for answer, kind in (("0", "values left in a queue"), ("3", "values left in a queue and lost"), ("4", "an empty queue")):
+        met[kind] += answers.count(answer)
+
+
+def numbered(message, raw):
+    """As the sheet has it."""
+    return " ".join([str(raw)] * (str(raw) in message.get("values", {})) + [in_units(message, raw)])
+
+
+def check_changes(journey, expected, rows):
+    """Those of the messages whose samples the test knows."""
+    samples = [(entry, samples_of(journey, expected, entry)) for entry in journey.board.objects]
+    named = [(entry, found) for entry, found in samples if found is not None and has_names(journey.messages[entry.name], found)]
+    wanted = sorted(change for entry, found in named for change in changes_of(journey, entry, found))
+    names = [entry.name for entry, _ in named]
+    shown = [[" ".join(cell) for cell in row] for row in rows if row[1][0] in names]
+    if sorted(shown) != sorted(row for _, row in wanted) or [row[0] for row in shown] != [row[0] for _, row in wanted]:
+        journey.fail(f"the report's changes are {shown}, and should be {[row for _, row in wanted]}")
+    return len(shown)
