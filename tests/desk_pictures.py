@@ -37,10 +37,10 @@ SECONDS = 30  # of a browser, at most
 IN_A_TIP = 8  # frames that a tip has the bytes of, at most
 LONG = 5000  # ticks
 # Of the van, worked out by hand from its script and what it prints.
-SUMMARY = ["Front humidity: 45.0 to 61.4 %, last 50.1 %, 7 readings sent", "Rear humidity: 45.0 to 59.9 %, last 45.1 %, 7 readings sent",
-           "Door: open and closed, last open, 10 readings sent", "Case light: 200 to 1000 lx, last 200 lx, 10 readings sent",
+SUMMARY = ["Front humidity: 45.0 to 61.4 %, last 50.1 %, in 7 requested frames", "Rear humidity: 45.0 to 59.9 %, last 45.1 %, in 7 requested frames",
+           "Door: open and closed, last open, in 10 requested frames", "Case light: 200 to 1000 lx, last 200 lx, in 10 requested frames",
            "Shock: 0.07 to 0.08 g, last 0.08 g, 2 readings taken", "Wanted humidity: 51.2 to 55.0 %, last 51.2 %, at least 3 readings arrived",
-           "Front display: 45.0 to 61.4 %, last 50.1 %, 7 readings arrived", "Freezer: -21 to -2 °C, last -2 °C, 10 readings sent",
+           "Front display: 45.0 to 61.4 %, last 50.1 %, 7 readings arrived", "Freezer: -21 to -2 °C, last -2 °C, in 10 requested frames",
            "Freezer display: -41 to -21 °C, last -41 °C, 2 readings arrived", "Case freezer: -14 to 0 °C, last -14 °C, at least 2 readings arrived",
            "I-PDU Humidity: 1 deadline missed", "I-PDU Case: 6 deadlines missed", "Shock: values were lost, at least 1",
            "Shock: values wait in its queue that nobody took"]

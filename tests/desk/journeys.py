@@ -157,6 +157,7 @@ class Expected:
         for ipdu, ticks in list(self.left.items()):
             if ticks == 1:
                 self.counts["deadline"] += 1
+                self.counts["deadline of a request"] += self.records[ipdu].direction == 1
                 del self.left[ipdu]
                 if self.records[ipdu].direction == 2:
                     self.left[ipdu] = self.records[ipdu].deadline

@@ -109,8 +109,7 @@ def check_readings(journey, expected, tables, met):
         wanted = [[in_units(message, raw, False), time_of(journey, line)] for line, raw in values] or [["-"]] * 4
         if samples and has_names(message, samples):
             wanted[:2] = [[", ".join(in_units(message, raw) for raw in dict.fromkeys(raw for _, raw in samples))]]
-        count = int((shown[entry.name][-1][0].split()[0]).replace("no", "0").replace(",", ""))
-        if shown[entry.name][1:-2] != wanted or count != len(samples):
+        if shown[entry.name][1:-2] != wanted or not shown[entry.name][-1][0].startswith(tally(entry, len(samples))):
             journey.fail(f"the report's row of {entry.name} is {shown[entry.name]}, and should have {wanted} and {len(samples)}")
         texts = [numbered(message, values[place][1]) for place in (2, 3, 0, 1)] if samples else ["-"] * 4
         if entry.record.depth and [cell[0] for cell in sheet[entry.name][2:7]] != [f"{len(samples):,}", *texts]:
@@ -119,6 +118,7 @@ def check_readings(journey, expected, tables, met):
             journey.fail(f"the report is wrong on whether values of {entry.name} are those of frames that do not hold it")
         compared += 1
     check_queues(journey, met)
+    check_sent(journey, expected)
     changes = check_changes(journey, expected, tables.get("changes", [])[1:])
     met["a change"] += changes
     return compared + changes
@@ -144,6 +144,30 @@ def check_queues(journey, met):
         journey.fail(f"the report says of lost values {said}, and should say {lost}")
     for answer, kind in (("0", "values left in a queue"), ("3", "values left in a queue and lost"), ("4", "an empty queue")):
         met[kind] += answers.count(answer)
+
+
+def tally(entry, count):
+    """The words for so many readings."""
+    if entry.record.kind == 1:
+        return f"in {count:,} requested frame{'s' * (count > 1)}" if count else "in no requested frame"
+    verb = "taken" if entry.record.depth else "arrived"
+    return f"{count:,} reading{'s' * (count > 1)} {verb}" if count else f"no reading {verb}"
+
+
+def check_sent(journey, expected):
+    """The head's words of frames to send, and the summary's line of messages that no frame carried."""
+    late = expected.counts["deadline of a request"]
+    words = [f"{expected.counts[kind]:,} {said}" for kind, said in (("request", "requested"), ("confirm", "confirmed"), ("no_confirm", "not sent"))]
+    head = f"<dt>Frames to send</dt><dd>{', '.join(words)}, {late:,} past their deadline</dd>"
+    unsent = [entry for entry in journey.board.objects if entry.record.kind == 1 and samples_of(journey, expected, entry) == []]
+    said = re.findall("<li>(.*)</li>\n", journey.html)
+    lines = [place for place, line in enumerate(said) if line.startswith("No reading of: ")]
+    names = [len(re.split(", | and ", said[place].removesuffix(", in no requested frame"))) for place in lines]
+    if head not in journey.html or names != [len(unsent)] * bool(unsent):
+        journey.fail(f"the report has no {head!r}, or has {names} messages with no reading, and not {len(unsent)}")
+    last = max((place for place, line in enumerate(said) if re.search(": .*, last .*, (in |at least |[0-9])", line)), default=-1)
+    if lines and lines[0] < last:
+        journey.fail("messages with no reading stand before others in the summary")
 
 
 def numbered(message, raw):

@@ -2,6 +2,7 @@
 from collections import Counter
 
 from . import html_sections as parts
+from .records import NONE, SEND
 from .report_words import escaped, is_empty, left_in_queues, left_words, lost, refusal, refused, spaced, titled
 from .svg import Scene, pictures
 from .words import counted, joined
@@ -67,11 +68,13 @@ def facts(board, made, states, clock, lanes, unread):
     count = Counter(event.what for lane in lanes for event in lane.events)
     statuses, empty = Counter(step.status for step in refused(made)), sum(map(is_empty, made))
     left = left_in_queues(states)
+    late = sum(event.what == "deadline" for lane in lanes if lane.record.direction == SEND for event in lane.events)
     missed, overflows = count["deadline"], len(lost(made)) + sum(was_lost for _, was_lost in left)
     rows = [
         ("Network", board.network.title, False), ("Node", board.node, False), ("Tick", f"{board.network.milliseconds(1)} ms", False),
         ("Length", f"{clock.length()}, {counted(clock.ticks - 1, 'tick')}", False), ("Calls", f"{len(made):,}", False),
-        ("Frames sent", f"{count['request']:,} requested; {count['confirm']:,} confirmed, {count['no_confirm']:,} not sent", False),
+        ("Frames to send", f"{count['request']:,} requested, {count['confirm']:,} confirmed, {count['no_confirm']:,} not sent, {late:,} past their deadline",
+         False),
         ("Frames received", f"{count['indication']:,} good, {count['error']:,} with an error", False),
         ("Deadlines missed", f"{missed:,}" if missed else "none", bool(missed)),
         ("Lost values", f"at least {overflows:,}, as receives and the queues at the end said" if overflows else "none seen", bool(overflows)),
@@ -107,11 +110,18 @@ def sentence(reading):
     return f"{name}: {span}, last {reading.text(reading.samples[-1])}, {parts.tally(reading)}"
 
 
+def is_unsent(reading):
+    """Whether it is of a message for frames, and no frame with it was requested."""
+    return reading.is_sent and reading.entry.record.ipdu != NONE and not reading.samples
+
+
 def summary(board, scene, made, states):
     """The journey in plain words, a line for each reading and each trouble."""
     missed = Counter(lane.number for lane in scene.lanes for event in lane.events if event.what == "deadline")
     lines = [] if scene.starts else ["The layer was never started"]
-    lines += [sentence(reading) for reading in scene.readings]
+    lines += [sentence(reading) for reading in scene.readings if not is_unsent(reading)]
+    unsent = [spaced(reading.entry.name) for reading in scene.readings if is_unsent(reading)]
+    lines += [f"No reading of: {joined(unsent)}, in no requested frame"] if unsent else []
     lines += [f"I-PDU {board.ipdu_name(number)}: {counted(count, 'deadline')} missed" for number, count in missed.items()]
     lines += [] if missed else ["No deadline was missed"]
     overflows = Counter(step.numbers[0] for step in lost(made))
@@ -140,7 +150,7 @@ def html(board, made, states, title, unread=None):
         head(title, facts(board, made, states, clock, lanes, unread)),
         parts.section("Summary", summary(board, scene, made, states)),
         parts.section("Readings", "<p>A frame carries the latest value of each of its messages, at first the initial one. Times are those of the tick "
-                      "before.</p>\n" + parts.reading_table(scene.readings, clock)),
+                      "before; a reading from a queue has the time at which it was taken, not at which it came.</p>\n" + parts.reading_table(scene.readings, clock)),
         *changes_section(scene.readings, clock),
         parts.section("Sheet", parts.sheet_table(board, made)),
         picture_section(scene, title),

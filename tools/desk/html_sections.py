@@ -51,13 +51,22 @@ def shown_at(reading, value, clock):
 
 
 def tally(reading):
-    """How many readings there were. Behind a filter a second arrival of the same value may not be seen."""
-    verb = "sent" if reading.is_sent else "taken" if reading.is_queued else "arrived"
+    """How many readings there were. A request is no frame on the bus before it is confirmed; behind a filter a second arrival of the same value may not be
+    seen."""
+    if reading.is_sent:
+        return sent_tally(reading)
+    verb = "taken" if reading.is_queued else "arrived"
     if not reading.samples:
         return f"no reading {verb}"
     at_least = verb == "arrived" and not reading.passes_all
     strays = " from a queue, also from frames that do not hold it" if reading.may_have_strays else ""
     return ("at least " if at_least else "") + f"{counted(len(reading.samples), 'reading')} {verb}{strays}"
+
+
+def sent_tally(reading):
+    if reading.entry.record.ipdu == NONE:
+        return "sent inside, in no frame"
+    return f"in {counted(len(reading.samples), 'requested frame')}" if reading.samples else "in no requested frame"
 
 
 def reading_rows(readings, clock):
