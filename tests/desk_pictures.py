@@ -28,7 +28,7 @@ from report_checks import check_html, check_references
 DRIVE = os.path.join(TOP, "target", "bin", "drive")
 SPACE = "{http://www.w3.org/2000/svg}"
 KINDS = ["request", "confirm", "no_confirm", "indication", "error", "deadline", "given", "taken", "lost", "marked"]
-MET = ["values left in a queue", "values left in a queue and lost", "an empty queue", "a change"]
+MET = ["values left in a queue", "values left in a queue and lost", "an empty queue", "a change", "below the expected", "above the expected"]
 LEAST_TEXT = 9
 MOST_WIDTH = 2000
 AWKWARD = ["<&\">'", "Überführung der Gemälde, 12 °C", "A " + "very " * 200 + "long title", "W" * 500, "", "tab\tand\nline\x07bell", "貸出品の輸送",
@@ -61,10 +61,12 @@ send 0 1
 confirm 0 1
 send 2 2
 tick
-receive 6
+receive 7
 """
 DRAWN = {"Page": [0, 1, 1], "Warmth": [50], "Door": [2, 2], "CasePage": [0, 1, 0, 1, 0], "CaseWarmth": [0, 42, 150, 1], "CaseDoor": [0, 2, 1],
          "CaseLock": [], "CaseShock": [], "CaseSpare": [0, 150]}
+OUTSIDE = ["Warmth: above the expected 22.5 °C in 1 requested frame, for 50 ms", "Case warmth: above the expected 60.0 °C in 1 reading, for 50 ms",
+           "Case shock: below the expected 1.0 g in 1 reading"]
 
 
 def fail(name, words):
@@ -185,11 +187,14 @@ def check_van(journey):
 
 
 def check_by_hand(journey):
-    """What is drawn of each message in a run of a few frames, two of which do not hold it."""
+    """What is drawn of each message in a run of a few frames, some of which do not hold it, and what is not expected."""
     for reading in readings(journey.board, journey.made, journey.states, 9.0):
         drawn = [value.raw for run in reading.lines for value in run.values]
         if drawn != DRAWN[reading.entry.name]:
             journey.fail(f"of {reading.entry.name} {drawn} is drawn, and should be {DRAWN[reading.entry.name]}")
+    outside = re.findall("<li>(.* the expected .*)</li>", journey.html)
+    if outside != OUTSIDE:
+        journey.fail(f"the summary has {outside}, and should have {OUTSIDE}")
 
 
 # a browser

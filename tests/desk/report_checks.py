@@ -4,7 +4,7 @@ from collections import Counter
 from html.parser import HTMLParser
 
 from desk.layer import DRIVE, drive
-from journeys import changes_of, has_names, in_units, is_held, raw_in, samples_of, time_of
+from journeys import changes_of, has_names, in_time, in_units, is_held, raw_in, samples_of, ticks_to, time_of
 
 VOID = {"meta", "br"}
 OUTSIDE = re.compile(r"https?:|//|@import|<script|<link|<image|<img|<iframe|<object|\bhref|\bsrc=|<!ENTITY|javascript:")
@@ -106,9 +106,10 @@ def check_readings(journey, expected, tables, met):
         if samples is None:
             continue
         values = [min(samples, key=lambda each: each[1]), max(samples, key=lambda each: each[1]), samples[0], samples[-1]] if samples else []
-        wanted = [[in_units(message, raw, False), time_of(journey, line)] for line, raw in values] or [["-"]] * 4
+        wanted = [[in_units(message, raw, False), *side_words(message, raw), time_of(journey, line)] for line, raw in values] or [["-"]] * 4
         if samples and has_names(message, samples):
             wanted[:2] = [[", ".join(in_units(message, raw) for raw in dict.fromkeys(raw for _, raw in samples))]]
+        wanted.insert(-2, expected_range(message))
         if shown[entry.name][1:-2] != wanted or not shown[entry.name][-1][0].startswith(tally(entry, len(samples))):
             journey.fail(f"the report's row of {entry.name} is {shown[entry.name]}, and should have {wanted} and {len(samples)}")
         texts = [numbered(message, values[place][1]) for place in (2, 3, 0, 1)] if samples else ["-"] * 4
@@ -119,6 +120,7 @@ def check_readings(journey, expected, tables, met):
         compared += 1
     check_queues(journey, met)
     check_sent(journey, expected)
+    check_outside(journey, expected, met)
     changes = check_changes(journey, expected, tables.get("changes", [])[1:])
     met["a change"] += changes
     return compared + changes
@@ -152,6 +154,44 @@ def tally(entry, count):
         return f"in {count:,} requested frame{'s' * (count > 1)}" if count else "in no requested frame"
     verb = "taken" if entry.record.depth else "arrived"
     return f"{count:,} reading{'s' * (count > 1)} {verb}" if count else f"no reading {verb}"
+
+
+def side_of(message, raw):
+    """Where a value with no name lies beside what is expected."""
+    value = raw * message.get("factor", 1) + message.get("offset", 0)
+    if str(raw) in message.get("values", {}):
+        return None
+    return "below" if "minimum" in message and value < message["minimum"] else "above" if "maximum" in message and value > message["maximum"] else None
+
+
+def side_words(message, raw):
+    side = side_of(message, raw)
+    return [f"{side} the expected"] if side else []
+
+
+def expected_range(message):
+    """The cell of it."""
+    least, greatest = message.get("minimum"), message.get("maximum")
+    if least is None:
+        return [] if greatest is None else [f"{greatest} or less"]
+    return [f"{least} or more" if greatest is None else f"{least} to {greatest}"]
+
+
+def check_outside(journey, expected, met):
+    """The summary's lines of readings that are not expected, by name, how many and how long."""
+    wanted = []
+    for entry in journey.board.objects:
+        message, samples = journey.messages[entry.name], samples_of(journey, expected, entry) or []
+        ends = [ticks_to(journey, line) for line, _ in samples[1:]] + [len(journey.ticks)]
+        for side in ("below", "above"):
+            ticks = [end - ticks_to(journey, line) for (line, raw), end in zip(samples, ends) if side_of(message, raw) == side]
+            what = f"{'requested frame' if entry.record.kind == 1 else 'reading'}{'s' * (len(ticks) != 1)}"
+            long = "" if entry.record.depth else f", for {in_time(journey, sum(ticks))}"
+            wanted += [(side, f"in {len(ticks):,} {what}{long}")] * bool(ticks)
+            met[f"{side} the expected"] += len(ticks)
+    found = re.findall("<li>[^:]*: (below|above) the expected [0-9.]+ [^ ]* (in .*)</li>", journey.html)
+    if found != wanted:
+        journey.fail(f"the summary says of readings that are not expected {found}, and should say {wanted}")
 
 
 def check_sent(journey, expected):

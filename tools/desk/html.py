@@ -18,7 +18,7 @@ h3{font-size:15px;margin:22px 0 8px;break-after:avoid}
 .facts dt{color:#56626c}
 .facts dt{grid-column:1}
 .facts dd{margin:0;grid-column:2}
-.facts .bad{font-weight:bold;color:#a33f00}
+.bad{font-weight:bold;color:#a33f00}
 .summary{padding-left:20px}
 .summary li{margin:3px 0}
 table{border-collapse:collapse;width:100%;font-size:13px}
@@ -120,6 +120,7 @@ def summary(board, scene, made, states):
     missed = Counter(lane.number for lane in scene.lanes for event in lane.events if event.what == "deadline")
     lines = [] if scene.starts else ["The layer was never started"]
     lines += [sentence(reading) for reading in scene.readings if not is_unsent(reading)]
+    lines += [line for reading in scene.readings for line in parts.outside_lines(reading, scene.clock)]
     unsent = [spaced(reading.entry.name) for reading in scene.readings if is_unsent(reading)]
     lines += [f"No reading of: {joined(unsent)}, in no requested frame"] if unsent else []
     lines += [f"I-PDU {board.ipdu_name(number)}: {counted(count, 'deadline')} missed" for number, count in missed.items()]
@@ -150,7 +151,8 @@ def html(board, made, states, title, unread=None):
         head(title, facts(board, made, states, clock, lanes, unread)),
         parts.section("Summary", summary(board, scene, made, states)),
         parts.section("Readings", "<p>A frame carries the latest value of each of its messages, at first the initial one. Times are those of the tick "
-                      "before; a reading from a queue has the time at which it was taken, not at which it came.</p>\n" + parts.reading_table(scene.readings, clock)),
+                      "before; a reading from a queue has the time at which it was taken, not at which it came. One "
+                      "that is not expected is taken to last until the next.</p>\n" + parts.reading_table(scene.readings, clock)),
         *changes_section(scene.readings, clock),
         parts.section("Sheet", parts.sheet_table(board, made)),
         picture_section(scene, title),

@@ -4,7 +4,7 @@ from html import escape
 from . import bits
 from .network import MODES, TRANSFERS
 from .records import NONE, SEND
-from .report_words import escaped, refusal, refused
+from .report_words import escaped, refusal, refused, spaced
 from .sections import plain
 from .sheet import sheet
 from .words import counted, identifier
@@ -46,27 +46,49 @@ def without_unit(scaling, raw):
 
 
 def shown_at(reading, value, clock):
-    """A value, and its time below it."""
-    return Markup(f"<b>{escaped(without_unit(reading.entry.scaling, value.raw))}</b> <small>at {escaped(clock.words(value.at))}</small>")
+    """A value and its time; between them a word where it is not expected."""
+    side = reading.side(value)
+    mark, words = (" class=\"bad\"", f"<small class=\"bad\">{side} the expected</small> ") if side else ("", "")
+    return Markup(f"<b{mark}>{escaped(without_unit(reading.entry.scaling, value.raw))}</b> {words}<small>at {escaped(clock.words(value.at))}</small>")
+
+
+def expected_words(of):
+    """What people may expect of a message, in its unit."""
+    if of.minimum is None:
+        return "" if of.maximum is None else f"{plain(of.maximum)} or less"
+    return f"{plain(of.minimum)} or more" if of.maximum is None else f"{plain(of.minimum)} to {plain(of.maximum)}"
+
+
+def outside_lines(reading, clock):
+    """What the summary says of readings that are not expected. Those of a queue have the times at which they were taken, which say nothing of how long."""
+    scaling, of = reading.entry.scaling, reading.entry.of
+    lines = []
+    for side, bound in (("below", of.minimum), ("above", of.maximum)):
+        count, ticks = reading.outside(side, clock.ticks - 1)
+        if not count:
+            continue
+        decimals = max(scaling.decimals(), -bound.normalize().as_tuple().exponent)
+        how_long = "" if reading.is_queued else f", for {clock.words(ticks)}"
+        lines.append(f"{spaced(reading.entry.name)}: {side} the expected {f'{bound:.{decimals}f} {scaling.unit}'.rstrip()} "
+                     f"in {how_many(reading, count)}{how_long}")
+    return lines
+
+
+def how_many(reading, count):
+    """Behind a filter a second arrival of the same value may not be seen; a request is no frame on the bus before it is confirmed."""
+    at_least = "" if reading.is_sent or reading.is_queued or reading.passes_all else "at least "
+    return at_least + counted(count, "requested frame" if reading.is_sent else "reading")
 
 
 def tally(reading):
-    """How many readings there were. A request is no frame on the bus before it is confirmed; behind a filter a second arrival of the same value may not be
-    seen."""
-    if reading.is_sent:
-        return sent_tally(reading)
-    verb = "taken" if reading.is_queued else "arrived"
-    if not reading.samples:
-        return f"no reading {verb}"
-    at_least = verb == "arrived" and not reading.passes_all
-    strays = " from a queue, also from frames that do not hold it" if reading.may_have_strays else ""
-    return ("at least " if at_least else "") + f"{counted(len(reading.samples), 'reading')} {verb}{strays}"
-
-
-def sent_tally(reading):
-    if reading.entry.record.ipdu == NONE:
+    """How many readings there were."""
+    if reading.is_sent and reading.entry.record.ipdu == NONE:
         return "sent inside, in no frame"
-    return f"in {counted(len(reading.samples), 'requested frame')}" if reading.samples else "in no requested frame"
+    if reading.is_sent:
+        return f"in {how_many(reading, len(reading.samples))}" if reading.samples else "in no requested frame"
+    verb = "taken" if reading.is_queued else "arrived"
+    strays = " from a queue, also from frames that do not hold it" if reading.may_have_strays else ""
+    return f"{how_many(reading, len(reading.samples))} {verb}{strays}" if reading.samples else f"no reading {verb}"
 
 
 def reading_rows(readings, clock):
@@ -74,11 +96,11 @@ def reading_rows(readings, clock):
     for reading in readings:
         name = Markup(f"{escaped(reading.entry.name)}" + (f"<br><small>{escaped(reading.entry.of.comment)}</small>" if reading.entry.of.comment else ""))
         if not reading.samples:
-            rows.append([name, "-", "-", "-", "-", reading.entry.scaling.unit, tally(reading)])
+            rows.append([name, "-", "-", expected_words(reading.entry.of), "-", "-", reading.entry.scaling.unit, tally(reading)])
             continue
         span = [names_seen(reading)] if reading.is_named else [shown_at(reading, value, clock) for value in reading.extremes()]
         ends = [shown_at(reading, value, clock) for value in (reading.samples[0], reading.samples[-1])]
-        rows.append([name, *span, *ends, reading.entry.scaling.unit, tally(reading)])
+        rows.append([name, *span, expected_words(reading.entry.of), *ends, reading.entry.scaling.unit, tally(reading)])
     return rows
 
 
@@ -87,7 +109,8 @@ def names_seen(reading):
 
 
 def reading_table(readings, clock):
-    return table("readings", ["reading", "least", "greatest", "first", "last", "unit", "how many"], reading_rows(readings, clock), "The node has no messages.")
+    heads = ["reading", "least", "greatest", "expected", "first", "last", "unit", "how many"]
+    return table("readings", heads, reading_rows(readings, clock), "The node has no messages.")
 
 
 def changes(readings):

@@ -62,6 +62,19 @@ class Reading:
         is_plain = not scaling.unit and scaling.physical(1) == 1 and scaling.physical(0) == 0
         return bool(scaling.names) and (is_plain or all(value.raw in scaling.names for value in self.samples))
 
+    def side(self, value):
+        """Where a value lies that is not expected: below or above; nothing for others, and for one with a name."""
+        of, physical = self.entry.of, self.entry.scaling.physical(value.raw)
+        if value.raw in self.entry.scaling.names:
+            return ""
+        return "below" if of.minimum is not None and physical < of.minimum else "above" if of.maximum is not None and physical > of.maximum else ""
+
+    def outside(self, side, end):
+        """How many samples lie on a side, and for how many ticks: each until the next sample, the last until `end`."""
+        ends = [*(int(value.at) for value in self.samples[1:]), end]
+        ticks = [until - int(value.at) for value, until in zip(self.samples, ends) if self.side(value) == side]
+        return len(ticks), sum(ticks)
+
     def seen(self):
         """The raw values of the samples, in the order in which they came first."""
         return list(dict.fromkeys(value.raw for value in self.samples))
