@@ -28,7 +28,8 @@ from report_checks import check_html, check_references
 DRIVE = os.path.join(TOP, "target", "bin", "drive")
 SPACE = "{http://www.w3.org/2000/svg}"
 KINDS = ["request", "confirm", "no_confirm", "indication", "error", "deadline", "given", "taken", "lost", "marked"]
-MET = ["values left in a queue", "values left in a queue and lost", "an empty queue", "a change", "below the expected", "above the expected"]
+MET = ["values left in a queue", "values left in a queue and lost", "an empty queue", "a change", "below the expected", "above the expected",
+       "several deadlines in one gap", "a gap to the end"]
 LEAST_TEXT = 9
 MOST_WIDTH = 2000
 AWKWARD = ["<&\">'", "Überführung der Gemälde, 12 °C", "A " + "very " * 200 + "long title", "W" * 500, "", "tab\tand\nline\x07bell", "貸出品の輸送",
@@ -42,7 +43,8 @@ SUMMARY = ["Front humidity: 45.0 to 61.4 %, last 50.1 %, in 7 requested frames",
            "Shock: 0.07 to 0.08 g, last 0.08 g, 2 readings taken", "Wanted humidity: 51.2 to 55.0 %, last 51.2 %, at least 3 readings arrived",
            "Front display: 45.0 to 61.4 %, last 50.1 %, 7 readings arrived", "Freezer: -21 to -2 °C, last -2 °C, in 10 requested frames",
            "Freezer display: -41 to -21 °C, last -41 °C, 2 readings arrived", "Case freezer: -14 to 0 °C, last -14 °C, at least 2 readings arrived",
-           "I-PDU Humidity: 1 deadline missed", "I-PDU Case: 6 deadlines missed", "Shock: values were lost, at least 1",
+           "I-PDU Humidity: 1 deadline missed, no confirm for 0.5 s", "I-PDU Case: 6 deadlines missed, no frame for 2.6 s at most",
+           "Shock: values were lost, at least 1",
            "Shock: values wait in its queue that nobody took"]
 
 # Of the network with pages: a frame for one page, one for the other, and again, with sends of both pages.

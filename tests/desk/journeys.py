@@ -99,6 +99,7 @@ class Expected:
         self.counts = Counter()
         self.frames = []
         self.left, self.waiting = {}, {}
+        self.gaps, self.open_gaps, self.last_frame, self.asked = [], {}, {}, {}
         for step in journey.made:
             if step.status == 0:
                 self.step(step)
@@ -108,30 +109,50 @@ class Expected:
         self.count_marks(journey.states)
 
     def step(self, step):
+        if step.call in ("start", "stop"):
+            for ipdu in range(len(self.records)):
+                self.end_gap(ipdu, step)
         if step.call == "start":
             self.drop_waiting()
             self.left = {k: record.first_deadline or record.deadline for k, record in enumerate(self.records) if record.direction == 2}
         elif step.call == "send":
             self.waiting.setdefault(step.numbers[0], []).append(step.numbers[1])
         elif step.call == "tick":
-            self.tick()
+            self.tick(step)
         elif step.call == "confirm":
             self.counts["confirm" if step.numbers[1] else "no_confirm"] += 1
             self.left.pop(step.numbers[0])
+            self.end_gap(step.numbers[0], step)
         elif step.call == "indication":
             self.indication(step)
         for ipdu, frame in step.requests:
             self.counts["request"] += 1
             self.frames.append((step.line, ipdu, frame))
+            if ipdu not in self.left:
+                self.asked[ipdu] = step.line
             self.left.setdefault(ipdu, self.records[ipdu].deadline)
             self.carry(ipdu, frame)
 
     def indication(self, step):
         ipdu, good = step.numbers
         self.counts["indication" if good else "error"] += 1
+        self.end_gap(ipdu, step)
         if good:
             self.left[ipdu] = self.records[ipdu].deadline
             self.frames.append((step.line, ipdu, step.frame))
+
+    def end_gap(self, ipdu, step):
+        """A frame, a confirm, a start or a stop ends what deadlines were missed one after the other."""
+        self.last_frame[ipdu] = step.line
+        if ipdu in self.open_gaps:
+            self.open_gaps.pop(ipdu)["end"] = step.line
+
+    def miss(self, ipdu, step):
+        if ipdu not in self.open_gaps:
+            begin = self.asked[ipdu] if self.records[ipdu].direction == 1 else self.last_frame[ipdu]
+            self.open_gaps[ipdu] = {"ipdu": ipdu, "lines": [], "begin": begin, "end": None}
+            self.gaps.append(self.open_gaps[ipdu])
+        self.open_gaps[ipdu]["lines"].append(step.line)
 
     def carry(self, ipdu, frame):
         """Values that were sent since the last frame that held their message, and are not in this one."""
@@ -153,10 +174,11 @@ class Expected:
             self.counts["marked"] += sum((new & ~old).bit_count() for new, old in zip(now, before))
             before = now
 
-    def tick(self):
+    def tick(self, step):
         for ipdu, ticks in list(self.left.items()):
             if ticks == 1:
                 self.counts["deadline"] += 1
+                self.miss(ipdu, step)
                 self.counts["deadline of a request"] += self.records[ipdu].direction == 1
                 del self.left[ipdu]
                 if self.records[ipdu].direction == 2:

@@ -94,7 +94,7 @@ def values_of(journey, number, frame):
 def check_readings(journey, expected, tables, met):
     """Rows of the readings that are sent, taken, or received with no filter, and of the sheet; how many faults and refused calls there are."""
     refused = sum(step.status != 0 and (step.call, step.status) not in (("receive", 3), ("receive", 4)) for step in journey.made)
-    bad = sum(expected.counts[kind] for kind in ("no_confirm", "error", "deadline"))
+    bad = expected.counts["no_confirm"] + expected.counts["error"] + len(expected.gaps)
     for name, count in (("refused", refused), ("faults", bad)):
         if max(0, len(tables.get(name, [])) - 1) != count:
             journey.fail(f"the report's table {name} has not {count} rows")
@@ -121,6 +121,7 @@ def check_readings(journey, expected, tables, met):
     check_queues(journey, met)
     check_sent(journey, expected)
     check_outside(journey, expected, met)
+    check_gaps(journey, expected, tables.get("faults", [])[1:], met)
     changes = check_changes(journey, expected, tables.get("changes", [])[1:])
     met["a change"] += changes
     return compared + changes
@@ -192,6 +193,37 @@ def check_outside(journey, expected, met):
     found = re.findall("<li>[^:]*: (below|above) the expected [0-9.]+ [^ ]* (in .*)</li>", journey.html)
     if found != wanted:
         journey.fail(f"the summary says of readings that are not expected {found}, and should say {wanted}")
+
+
+def gap_row(journey, expected, gap):
+    """Its time, line and words."""
+    lines, begin = gap["lines"], in_time(journey, ticks_to(journey, gap["begin"]))
+    first, last = (in_time(journey, ticks_to(journey, line)) for line in (lines[0], lines[-1]))
+    until = "the end" if gap["end"] is None else in_time(journey, ticks_to(journey, gap["end"]))
+    many = len(lines) > 1
+    what = "confirm" if expected.records[gap["ipdu"]].direction == 1 else "frame"
+    return [f"{first.split()[0]} to {last}" if many else first, f"{lines[0]} to {lines[-1]}" if many else str(lines[0]), journey.board.ipdus[gap["ipdu"]].name,
+            f"{len(lines):,} deadline{'s' * many} missed, no {what} from {begin} to {until}"]
+
+
+def check_gaps(journey, expected, rows, met):
+    """The rows of missed deadlines, and what the summary says of them."""
+    shown = sorted([cell[0] for cell in row[:4]] for row in rows if "missed" in row[3][0])
+    wanted = sorted(gap_row(journey, expected, gap) for gap in expected.gaps)
+    if shown != wanted:
+        journey.fail(f"the report's missed deadlines are {shown}, and should be {wanted}")
+    found = re.findall("<li>I-PDU .*: ([0-9,]+) deadlines? missed, no (?:frame|confirm) for (.*)</li>", journey.html)
+    lines = []
+    for ipdu in range(len(expected.records)):
+        own = [gap for gap in expected.gaps if gap["ipdu"] == ipdu]
+        ends = [len(journey.ticks) if gap["end"] is None else ticks_to(journey, gap["end"]) for gap in own]
+        longest = max((end - ticks_to(journey, gap["begin"]) for gap, end in zip(own, ends)), default=0)
+        count = sum(len(gap["lines"]) for gap in own)
+        lines += [(f"{count:,}", in_time(journey, longest) + " at most" * (len(own) > 1))] * bool(own)
+        met["several deadlines in one gap"] += sum(len(gap["lines"]) > 1 for gap in own)
+        met["a gap to the end"] += sum(gap["end"] is None for gap in own)
+    if found != lines:
+        journey.fail(f"the summary says of missed deadlines {found}, and should say {lines}")
 
 
 def check_sent(journey, expected):

@@ -117,14 +117,12 @@ def is_unsent(reading):
 
 def summary(board, scene, made, states):
     """The journey in plain words, a line for each reading and each trouble."""
-    missed = Counter(lane.number for lane in scene.lanes for event in lane.events if event.what == "deadline")
     lines = [] if scene.starts else ["The layer was never started"]
     lines += [sentence(reading) for reading in scene.readings if not is_unsent(reading)]
     lines += [line for reading in scene.readings for line in parts.outside_lines(reading, scene.clock)]
     unsent = [spaced(reading.entry.name) for reading in scene.readings if is_unsent(reading)]
     lines += [f"No reading of: {joined(unsent)}, in no requested frame"] if unsent else []
-    lines += [f"I-PDU {board.ipdu_name(number)}: {counted(count, 'deadline')} missed" for number, count in missed.items()]
-    lines += [] if missed else ["No deadline was missed"]
+    lines += parts.gap_lines(board, scene.lanes, scene.spans, scene.clock)
     overflows = Counter(step.numbers[0] for step in lost(made))
     lines += [f"{spaced(board.object_name(number))}: values were lost, at least {count}" for number, count in overflows.items()]
     lines += [f"{spaced(board.object_name(number))}: {left_words(was_lost)}" for number, was_lost in left_in_queues(states)]
@@ -156,7 +154,7 @@ def html(board, made, states, title, unread=None):
         *changes_section(scene.readings, clock),
         parts.section("Sheet", parts.sheet_table(board, made)),
         picture_section(scene, title),
-        parts.section("Missed deadlines and errors", parts.fault_table(board, lanes, clock)),
+        parts.section("Missed deadlines and errors", parts.fault_table(board, lanes, scene.spans, clock)),
         parts.folded("Refused calls", len(refused(made)), parts.refused_table(made, clock)),
         parts.section("Table", "<h3>I-PDUs</h3>\n" + parts.ipdu_table(board) + "<h3>Messages</h3>\n" + parts.message_table(board)
                       + parts.bits_pictures(board)),

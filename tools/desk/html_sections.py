@@ -2,6 +2,7 @@
 from html import escape
 
 from . import bits
+from .gaps import gaps
 from .network import MODES, TRANSFERS
 from .records import NONE, SEND
 from .report_words import escaped, refusal, refused, spaced
@@ -203,19 +204,33 @@ def bits_pictures(board):
 
 # what happened
 
-def faults(lanes):
-    """(time, line, I-PDU's number, what) of missed deadlines and errors, in the order of time."""
-    words = {(True, "deadline"): "deadline missed: a request was not confirmed in time", (False, "deadline"): "deadline missed: no frame came in time",
-             (True, "no_confirm"): "not sent, as its confirm says", (False, "error"): "received with an error"}
-    found = [(event.at, event.line, lane.number, words[key]) for lane in lanes for event in lane.events
-             for key in [(lane.record.direction == SEND, event.what)] if key in words]
-    return sorted(found)
+def faults(lanes, spans, clock):
+    """(first event, last event, I-PDU's number, what) of missed deadlines and errors, in the order of time."""
+    words = {"no_confirm": "not sent, as its confirm says", "error": "received with an error"}
+    found = [(event, event, lane.number, words[event.what]) for lane in lanes for event in lane.events if event.what in words]
+    found += [(gap.missed[0], gap.missed[-1], lane.number, f"{counted(len(gap.missed), 'deadline')} missed, {gap.words(clock)}")
+              for lane in lanes for gap in gaps(lane, spans)]
+    return sorted(found, key=lambda fault: (fault[0].at, fault[2]))
 
 
-def fault_table(board, lanes, clock):
-    rows = [[clock.words(at), line, board.ipdu_name(number), what, ", ".join(entry.name for entry in board.carried(number))]
-            for at, line, number, what in faults(lanes)]
+def fault_table(board, lanes, spans, clock):
+    rows = []
+    for first, last, number, what in faults(lanes, spans, clock):
+        lines = first.line if first is last else f"{first.line} to {last.line}"
+        rows.append([clock.span(first.at, last.at), lines, board.ipdu_name(number), what, ", ".join(entry.name for entry in board.carried(number))])
     return table("faults", ["time", "line", "I-PDU", "what", "messages"], rows, "No deadline was missed, and no frame was wrong.")
+
+
+def gap_lines(board, lanes, spans, clock):
+    """What the summary says of missed deadlines, a line for each I-PDU that has some."""
+    lines = []
+    for lane in lanes:
+        found = gaps(lane, spans)
+        if found:
+            longest = clock.words(max(gap.ticks(clock) for gap in found))
+            lines.append(f"I-PDU {board.ipdu_name(lane.number)}: {counted(sum(len(gap.missed) for gap in found), 'deadline')} missed, "
+                         f"no {found[0].lacks()} for {longest}{' at most' if len(found) > 1 else ''}")
+    return lines or ["No deadline was missed"]
 
 
 def call_text(step):

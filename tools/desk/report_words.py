@@ -61,6 +61,10 @@ class Clock:
     def words(self, at):
         return f"{self.number(at)} {self.unit}"
 
+    def span(self, begin, end):
+        """From a time to a time, or the time where it is one."""
+        return self.words(end) if int(begin) == int(end) else f"{self.number(begin)} to {self.words(end)}"
+
     def length(self):
         """From the first call to the last tick."""
         return self.words(self.ticks - 1)

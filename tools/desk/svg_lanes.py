@@ -49,8 +49,7 @@ class Times:
         return (self.x(group[0].at) + self.x(group[-1].at)) / 2
 
     def words(self, begin, end):
-        first, last = self.clock.number(begin), self.clock.words(end)
-        return last if int(begin) == int(end) else f"{first} to {last}"
+        return self.clock.span(begin, end)
 
 
 def near(items, begin, end, gap):
