@@ -89,7 +89,8 @@ class Journey:
         self.svg = svg.svg(board, self.made, self.states, title)
         self.unread = unread_line(script, self.made)
         self.ticks = [step.line for step in self.made if step.call == "tick"]
-        self.html = html.html(board, self.made, self.states, title, self.unread)
+        self.file, self.begin = (None, None) if name == "van" else (f"folder/{name} <&>.script", "2025-11-17 08:00:00 UTC <&>")
+        self.html = html.html(board, self.made, self.states, title, self.unread, self.file, self.begin)
 
     def fail(self, words):
         fail(self.name, f"{words}; title {self.title[:40]!r}, script {self.script[:200]!r}")

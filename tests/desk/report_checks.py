@@ -1,6 +1,8 @@
 """For the test of reports: a report is read back, and its tables, head and summary are compared with what the test works out of the run itself."""
+import os
 import re
 from collections import Counter
+from html import escape
 from html.parser import HTMLParser
 
 from desk.layer import DRIVE, drive
@@ -71,6 +73,10 @@ def check_html(journey, expected, met):
     cut = re.findall("ends at line ([0-9]+), which", journey.html)
     if cut != (["3"] if journey.title == "Cut" else []):
         journey.fail(f"the report says of lines that can't be read: {cut}")
+    for term, wanted in (("Script", journey.file and escape(os.path.basename(journey.file))), ("Begins", journey.begin and escape(journey.begin))):
+        said = re.findall(f"<dt>{term}</dt><dd>(.*)</dd>", journey.html)
+        if said != [wanted] * (wanted is not None):
+            journey.fail(f"the head says of {term} {said}, and should say {wanted}")
     rows = reader.tables.get("frames", [[]])[1:]
     if len(rows) != len(expected.frames):
         journey.fail(f"the report has {len(rows)} frames, the run {len(expected.frames)}")

@@ -1,4 +1,5 @@
 """The report of a journey for a lender: one HTML file that needs nothing else, to read on a screen and to print."""
+import os
 from collections import Counter
 
 from . import html_sections as parts
@@ -63,7 +64,7 @@ PROVED = ("The values, marks and requests of this page are the answers of the pr
           "tested, not proved.")
 
 
-def facts(board, made, states, clock, lanes, unread):
+def facts(board, made, states, clock, lanes, unread, script, begin):
     """(name, words, whether it is bad) for the head."""
     count = Counter(event.what for lane in lanes for event in lane.events)
     statuses, empty = Counter(step.status for step in refused(made)), sum(map(is_empty, made))
@@ -72,6 +73,7 @@ def facts(board, made, states, clock, lanes, unread):
     missed, overflows = count["deadline"], len(lost(made)) + sum(was_lost for _, was_lost in left)
     rows = [
         ("Network", board.network.title, False), ("Node", board.node, False), ("Tick", f"{board.network.milliseconds(1)} ms", False),
+        *([("Begins", begin, False)] if begin is not None else []),
         ("Length", f"{clock.length()}, {counted(clock.ticks - 1, 'tick')}", False), ("Calls", f"{len(made):,}", False),
         ("Frames to send", f"{count['request']:,} requested, {count['confirm']:,} confirmed, {count['no_confirm']:,} not sent, {late:,} past their deadline",
          False),
@@ -83,6 +85,7 @@ def facts(board, made, states, clock, lanes, unread):
     rows += [("Empty queues", f"found by {counted(empty, 'receive')}", False)] if empty else []
     refusals = [f"{number:,} with {refusal(status)}" for status, number in sorted(statuses.items())]
     rows += [("Calls refused", words, False) for words in refusals or ["none"]]
+    rows += [("Script", os.path.basename(script), False)] if script is not None else []
     return rows + ([("Script", f"ends at line {unread}, which can't be read", True)] if unread is not None else [])
 
 
@@ -141,12 +144,13 @@ def picture_section(scene, title):
     return f"<section class=\"pictures\">\n<h2>Picture</h2>\n{figures}</section>\n"
 
 
-def html(board, made, states, title, unread=None):
-    """The report. `unread` is the number of the script's line that can't be read, where the run ended at one."""
+def html(board, made, states, title, unread=None, script=None, begin=None):
+    """The report. `unread` is the number of the script's line that can't be read, where the run ended at one; `script` is the script's file and `begin` says
+    when the journey began, where these are known."""
     title, scene = titled(title), Scene(board, made, states)
     clock, lanes = scene.clock, scene.lanes
     sections = [
-        head(title, facts(board, made, states, clock, lanes, unread)),
+        head(title, facts(board, made, states, clock, lanes, unread, script, begin)),
         parts.section("Summary", summary(board, scene, made, states)),
         parts.section("Readings", "<p>A frame carries the latest value of each of its messages, at first the initial one. Times are those of the tick "
                       "before; a reading from a queue has the time at which it was taken, not at which it came. One "
