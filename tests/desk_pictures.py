@@ -31,6 +31,7 @@ KINDS = ["request", "confirm", "no_confirm", "indication", "error", "deadline", 
 MET = ["values left in a queue", "values left in a queue and lost", "an empty queue", "a change", "below the expected", "above the expected",
        "several deadlines in one gap", "a gap to the end"]
 LEAST_TEXT = 9
+LEAST_RADIUS = 2.5 * 1988 / 1116  # of a dot where the widest picture fills a report of the usual width
 MOST_WIDTH = 2000
 AWKWARD = ["<&\">'", "Überführung der Gemälde, 12 °C", "A " + "very " * 200 + "long title", "W" * 500, "", "tab\tand\nline\x07bell", "貸出品の輸送",
            "]]>--><!--</svg></style>"]
@@ -122,12 +123,26 @@ def check_svg(journey, expected):
             found[kind] += int(element.get("data-count", 1))
     if {kind: found[kind] for kind in KINDS} != {kind: expected.counts[kind] for kind in KINDS}:
         journey.fail(f"the SVG has {found}, the run {expected.counts}")
+    check_errors_and_dots(journey, root)
     if max((int(element.get("data-count", 1)) for element in root.iter()), default=1) <= IN_A_TIP:
         tips = " ".join(element.text for element in root.iter(SPACE + "title"))
         for line, ipdu, frame in expected.frames:
             if frame.hex(" ").upper() not in tips:
                 journey.fail(f"no tip of the SVG has the bytes {frame.hex()} of I-PDU {ipdu}, line {line}")
     return found
+
+
+def check_errors_and_dots(journey, root):
+    """What stays marked as an error is thinner behind the mark, up to where the mark is cleared; dots of values from queues are large enough to be seen."""
+    rects = list(root.iter(SPACE + "rect"))
+    for before, rest in zip(rects, rects[1:]):
+        if rest.get("class") == "still":
+            left, wide, high = (float(before.get(key)) for key in ("x", "width", "height"))
+            if before.get("class") != "marked" or abs(left + wide - float(rest.get("x"))) > 0.02 or float(rest.get("height")) >= high:
+                journey.fail(f"what stays marked at {rest.get('x')} is not a thinner rest of a mark")
+    for element in root.iter(SPACE + "path"):
+        if element.get("class") == "taken" and float(re.search("a([0-9.]+) ", element.get("d"))[1]) < LEAST_RADIUS:
+            journey.fail(f"a dot is small: {element.get('d')}")
 
 
 def check_texts(journey, root):
@@ -245,7 +260,7 @@ def main():
             if journey.name == "van":
                 check_van(journey)
                 said = browsed(journey, folder)
-    never = [kind for kind in [*KINDS, "state", "value", "started", "several", "dense"] if not found[kind]]
+    never = [kind for kind in [*KINDS, "still", "state", "value", "started", "several", "dense"] if not found[kind]]
     never += [kind for kind in MET if not met[kind]]
     if never or not values:
         fail("all journeys", f"never met: {never}, values {values}")

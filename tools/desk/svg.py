@@ -25,7 +25,8 @@ LEGEND = [
     ("bar", "end", "open at the end"), ("bar", "delay", "minimum delay"), ("thin", "in_time", "a frame is waited for"), ("thin", "deadline", "in vain"),
     ("line", "value", "value carried by frames, or held"), ("mark", "given", "value given to a send, carried by no frame"),
     ("mark", "taken", "value taken from a queue"), ("mark", "lost", "taken, and one before it was lost"),
-    ("thin", "good", "marked sent or arrived"), ("thin", "bad", "marked send or receive error"),
+    ("thin", "good", "marked sent or arrived, until cleared"), ("thin", "bad", "marked send or receive error"),
+    ("rest", "still", "still marked so, until cleared"),
     ("bar", "stopped", "layer stopped"), ("line", "started", "start: nothing of before is left"),
 ]
 
@@ -189,7 +190,7 @@ class Page:
         elif kind == "line":
             canvas.line(name, left + 1, middle, left + 23, middle)
         else:
-            height = 4 if kind == "thin" else 9
+            height = {"bar": 9, "thin": MessageLane.strip, "rest": MessageLane.still}[kind]
             canvas.bar("bar" if kind == "bar" else "marked", name, left + 1, middle - height / 2, left + 23, height)
 
 

@@ -38,6 +38,7 @@ FILLS = {
     "confirm": ("#bcdcf0", BLUE), "no_confirm": ("url(#slanted)", WARNING), "deadline": ("url(#crossed)", WARNING),
     "start": ("#fff", MUTED), "end": ("#eef6fb", BLUE), "delay": ("url(#dotted)", MUTED),
     "running": ("#e3eef5", "none"), "stopped": ("url(#grey)", "none"), "good": ("#5f9cc2", "none"), "bad": ("url(#slanted)", "none"),
+    "still": ("#dd9464", "none"),
     "in_time": ("#9db4c3", "none"), "many": ("url(#upright)", BLUE),
 }
 
@@ -93,7 +94,7 @@ SHAPES = {
     "request": "m0 -5l4.5 9h-9z", "indication": "m0 5l4.5 -9h-9z", "deadline": "m0 -6.5l6.5 6.5l-6.5 6.5l-6.5 -6.5z",
     "no_confirm": "m-4 -4l8 8m0 -8l-8 8", "error": "m-4 -4l8 8m0 -8l-8 8",
     "confirm": "m-3.6 0a3.6 3.6 0 1 0 7.2 0a3.6 3.6 0 1 0 -7.2 0z", "given": "m-3 0a3 3 0 1 0 6 0a3 3 0 1 0 -6 0z",
-    "taken": "m-3 0a3 3 0 1 0 6 0a3 3 0 1 0 -6 0z", "lost": "m0 -6l5.5 10h-11z",
+    "taken": "m-4.5 0a4.5 4.5 0 1 0 9 0a4.5 4.5 0 1 0 -9 0z", "lost": "m0 -6l5.5 10h-11z",
 }
 REACH = 6.5  # how far a mark goes from its middle, at most
 

@@ -121,7 +121,7 @@ class IpduLane:
 class MessageLane:
     """A value over time, as a line, as a band of named states or as dots; below it two thin strips of marks."""
 
-    strip = 4
+    strip, still = 4, 1.5  # heights of a mark, and of an error's that stays marked
 
     def __init__(self, board, reading, marks, times):
         self.board, self.reading, self.times = board, reading, times
@@ -169,13 +169,18 @@ class MessageLane:
                 self.line(canvas, top, run)
 
     def marked(self, canvas, spans, y, how, name):
-        """The strip of one mark."""
+        """The strip of one mark; that of an error is thin after the tick in which it was set."""
         x = self.times.x
         for group in near(spans, lambda span: x(span.begin), lambda group: x(group[-1].end), THIN):
             first, last = group[0], group[-1]
             several = f", {len(group)} times" if len(group) > 1 else ""
-            canvas.bar("marked", how, x(first.begin), y, x(last.end), self.strip,
-                       f"{self.entry.name}: marked {name}{several}, {self.times.words(first.begin, last.end)}", len(group))
+            tip = f"{self.entry.name}: marked {name}{several}, {self.times.words(first.begin, last.end)}"
+            right = end = x(last.end)
+            if how == "bad" and len(group) == 1:
+                right = min(end, max(x(first.begin + 1), x(first.begin) + NEAR))
+            canvas.bar("marked", how, x(first.begin), y, right, self.strip, tip, len(group))
+            if right < end:
+                canvas.bar("still", "still", right, y + self.strip - self.still, end, self.still, tip)
 
     def scale_ends(self, canvas, top):
         ends = [(self.greatest, 4), (self.least, self.body + 4)] if self.greatest != self.least else [(self.least, self.body / 2 + 4)]
