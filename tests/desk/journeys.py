@@ -252,8 +252,10 @@ def changes_of(journey, entry, samples):
     ends = [ticks_to(journey, line) for line, _, _ in found[1:]] + [len(journey.ticks)]
     for place, ((line, before, raw), end) in enumerate(zip(found, ends), 1):
         begin = ticks_to(journey, line)
-        last = ", to the end" if place == len(found) else ""
-        yield line, [in_time(journey, begin), entry.name, in_units(message, before), in_units(message, raw), in_time(journey, end - begin) + last]
+        stayed = in_time(journey, end - begin) + ", to the end" * (place == len(found))
+        if entry.record.depth and place < len(found) and begin == end:
+            stayed = "not known: taken with the next"
+        yield line, [in_time(journey, begin), entry.name, in_units(message, before), in_units(message, raw), stayed]
 
 
 def wandering(board, ticks, seed):

@@ -123,10 +123,18 @@ def changes(readings):
 def change_table(found, clock):
     rows = []
     for reading, before, value, following in found:
-        ticks = int(following.at if following else clock.ticks - 1) - int(value.at)
-        stayed = clock.words(ticks) + ("" if following else ", to the end")
-        rows.append([clock.words(value.at), reading.entry.name, *(without_unit(reading.entry.scaling, each.raw) for each in (before, value)), stayed])
-    return table("changes", ["time", "reading", "from", "to", "stayed"], rows, "No reading with named values changed.")
+        values = [without_unit(reading.entry.scaling, each.raw) for each in (before, value)]
+        rows.append([clock.words(value.at), reading.entry.name, *values, stayed(reading, value, following, clock)])
+    note = "<p>What was taken from a queue has the time at which it was taken.</p>\n" if any(reading.is_queued for reading, *_ in found) else ""
+    return note + table("changes", ["time", "reading", "from", "to", "stayed"], rows, "No reading with named values changed.")
+
+
+def stayed(reading, value, following, clock):
+    """How long a change lasted. Of two values that were taken from a queue in one tick it is not known when they came."""
+    ticks = int(following.at if following else clock.ticks - 1) - int(value.at)
+    if reading.is_queued and following and not ticks:
+        return "not known: taken with the next"
+    return clock.words(ticks) + ("" if following else ", to the end")
 
 
 def numbered(entry, value):
