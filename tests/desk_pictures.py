@@ -28,7 +28,7 @@ from report_checks import check_html, check_references
 DRIVE = os.path.join(TOP, "target", "bin", "drive")
 SPACE = "{http://www.w3.org/2000/svg}"
 KINDS = ["request", "confirm", "no_confirm", "indication", "error", "deadline", "given", "taken", "lost", "marked"]
-MET = ["values left in a queue", "values left in a queue and lost", "an empty queue", "a change", "below the expected", "above the expected",
+MET = ["values left", "values left and lost", "values emptied", "values emptied and lost", "no lost values", "a change", "below the expected", "above the expected",
        "several deadlines in one gap", "a gap to the end"]
 LEAST_TEXT = 9
 LEAST_RADIUS = 2.5 * 1988 / 1116  # of a dot where the widest picture fills a report of the usual width
@@ -51,6 +51,7 @@ SUMMARY = ["Front humidity: 45.0 to 61.4 %, last 50.1 %, in 7 requested frames",
 # Of the network with pages: a frame for one page, one for the other, and again, with sends of both pages.
 BY_HAND = """start
 indication 1 1 002A0000
+initialise 6 0
 tick
 indication 1 1 01960200
 tick
@@ -183,6 +184,7 @@ def all_journeys(folder):
     script = contents("examples", "van.script")
     plans = [(f"{LONG} ticks", van, wandering(van, LONG, 1), "A long journey"), ("case", case, wandering(case, 300, 2), "The case"),
              ("pages", pages, wandering(pages, 200, 4), "Pages"), ("pages by hand", pages, BY_HAND, "Pages"),
+             ("emptied", pages, "start\n" + "indication 1 1 00000000\n" * 4 + "start\ntick\n", "Emptied"),
              ("largest", big, wandering(big, 40, 3), "Largest"), ("largest, empty", big, "", "Empty"), ("empty", van, "", "Empty"),
              ("never started", van, "tick\nsend 0 450\nconfirm 0 1\ntick\n", "Never"), ("one tick", van, "start\ntick\n", "One tick"),
              ("a line that can't be read", van, "start\nsend 0 500\nno such call\ntick\n", "Cut"), ("no line feed", van, "start\nsend 0 500\ntick", "Cut")]

@@ -133,26 +133,40 @@ def check_readings(journey, expected, tables, met):
     return compared + changes
 
 
+def statuses_at(journey, place, queued):
+    """What drive answers to a status of each queue before a call, or before the stop where the layer was stopped then."""
+    turns = [(turn, step.call) for turn, step in enumerate(journey.made[:place]) if step.call in ("start", "stop") and step.status == 0]
+    end = turns[-1][0] if turns and turns[-1][1] == "stop" else place
+    asked = [*journey.script.split("\n")[:end], *(f"status {number}" for number in queued)]
+    return dict(zip(queued, drive(DRIVE, journey.board.table, "".join(line + "\n" for line in asked)).split("\n")[end:-1], strict=True))
+
+
 def check_queues(journey, met):
-    """What the head and the summary say of queues, beside what drive answers to a status of each at the end, or before the last stop."""
-    lines = journey.script.split("\n")[:len(journey.made)]
-    stops = [place for place, step in enumerate(journey.made) if step.call in ("start", "stop") and step.status == 0]
-    end = stops[-1] if stops and journey.made[stops[-1]].call == "stop" else len(lines)
-    queued = [entry for entry in journey.board.objects if entry.record.depth]
-    asked = [*lines[:end], *(f"status {entry.number}" for entry in queued)]
-    answers = drive(DRIVE, journey.board.table, "".join(line + "\n" for line in asked)).split("\n")[end:-1]
-    words = {"0": ": values wait in its queue that nobody took", "3": ": values wait in its queue that nobody took, and values were lost"}
-    left = [(entry.name, words[answer]) for entry, answer in zip(queued, answers, strict=True) if answer in words]
-    head = re.findall("<dd class=\"bad\">(.*)(: values wait .*)</dd>", journey.html)
-    summary = re.findall("<li>.*(: values wait .*)</li>", journey.html)
+    """What the head and the summary say of values that nobody took, beside the statuses at the end and before what empties a queue."""
+    queued = [entry.number for entry in journey.board.objects if entry.record.depth]
+    emptied = {number: [] for number in queued}
+    for place, step in enumerate(journey.made):
+        if step.status == 0 and step.call in ("start", "initialise"):
+            for number, status in statuses_at(journey, place, queued if step.call == "start" else [each for each in queued if each == step.numbers[0]]).items():
+                emptied[number].append(status)
+    last = statuses_at(journey, len(journey.made), queued)
+    left = []
+    for number in queued:
+        for statuses, words, kind in ((emptied[number], "its queue was emptied by a start or an initialise, with values that nobody took", "emptied"),
+                                      ([last[number]], "values wait in its queue that nobody took", "left")):
+            if {"0", "3"} & set(statuses):
+                left.append((journey.board.objects[number].name, words + ", and values were lost" * ("3" in statuses)))
+            met[f"values {kind}"] += statuses.count("0")
+            met[f"values {kind} and lost"] += statuses.count("3")
+    head = re.findall("<dd class=\"bad\">(.*): (values wait .*|its queue was .*)</dd>", journey.html)
+    summary = re.findall("<li>.*: (values wait .*|its queue was .*)</li>", journey.html)
     if head != left or summary != [words for _, words in left]:
         journey.fail(f"the report says of queues {head} and {summary}, and should say {left}")
-    lost = sum(step.call == "receive" and step.status == 3 for step in journey.made) + answers.count("3")
+    lost = sum(step.call == "receive" and step.status == 3 for step in journey.made) + [*last.values(), *sum(emptied.values(), [])].count("3")
     said = re.findall("<dt>Lost values</dt><dd.*>(?:at least )?(none seen|[0-9,]*[0-9])", journey.html)
     if said != [f"{lost:,}" if lost else "none seen"]:
         journey.fail(f"the report says of lost values {said}, and should say {lost}")
-    for answer, kind in (("0", "values left in a queue"), ("3", "values left in a queue and lost"), ("4", "an empty queue")):
-        met[kind] += answers.count(answer)
+    met["no lost values"] += not lost
 
 
 def tally(entry, count):

@@ -4,7 +4,7 @@ from collections import Counter
 
 from . import html_sections as parts
 from .records import NONE, SEND
-from .report_words import escaped, is_empty, left_in_queues, left_words, lost, refusal, refused, spaced, titled
+from .report_words import escaped, is_empty, left_in_queues, lost, refusal, refused, spaced, titled
 from .svg import Scene, pictures
 from .words import counted, joined
 
@@ -68,9 +68,9 @@ def facts(board, made, states, clock, lanes, unread, script, begin):
     """(name, words, whether it is bad) for the head."""
     count = Counter(event.what for lane in lanes for event in lane.events)
     statuses, empty = Counter(step.status for step in refused(made)), sum(map(is_empty, made))
-    left = left_in_queues(states)
+    left = left_in_queues(made, states)
     late = sum(event.what == "deadline" for lane in lanes if lane.record.direction == SEND for event in lane.events)
-    missed, overflows = count["deadline"], len(lost(made)) + sum(was_lost for _, was_lost in left)
+    missed, overflows = count["deadline"], len(lost(made)) + sum(losses for *_, losses in left)
     rows = [
         ("Network", board.network.title, False), ("Node", board.node, False), ("Tick", f"{board.network.milliseconds(1)} ms", False),
         *([("Begins", begin, False)] if begin is not None else []),
@@ -79,9 +79,9 @@ def facts(board, made, states, clock, lanes, unread, script, begin):
          False),
         ("Frames received", f"{count['indication']:,} good, {count['error']:,} with an error", False),
         ("Deadlines missed", f"{missed:,}" if missed else "none", bool(missed)),
-        ("Lost values", f"at least {overflows:,}, as receives and the queues at the end said" if overflows else "none seen", bool(overflows)),
+        ("Lost values", f"at least {overflows:,}, as receives and queues said" if overflows else "none seen", bool(overflows)),
     ]
-    rows += [("Queues at the end", f"{board.object_name(number)}: {left_words(was_lost)}", True) for number, was_lost in left]
+    rows += [("Values not taken", f"{board.object_name(number)}: {words}", True) for number, words, _ in left]
     rows += [("Empty queues", f"found by {counted(empty, 'receive')}", False)] if empty else []
     refusals = [f"{number:,} with {refusal(status)}" for status, number in sorted(statuses.items())]
     rows += [("Calls refused", words, False) for words in refusals or ["none"]]
@@ -128,7 +128,7 @@ def summary(board, scene, made, states):
     lines += parts.gap_lines(board, scene.lanes, scene.spans, scene.clock)
     overflows = Counter(step.numbers[0] for step in lost(made))
     lines += [f"{spaced(board.object_name(number))}: values were lost, at least {count}" for number, count in overflows.items()]
-    lines += [f"{spaced(board.object_name(number))}: {left_words(was_lost)}" for number, was_lost in left_in_queues(states)]
+    lines += [f"{spaced(board.object_name(number))}: {words}" for number, words, _ in left_in_queues(made, states)]
     return "<ul class=\"summary\">\n" + "".join(f"<li>{escaped(line)}</li>\n" for line in lines) + "</ul>\n"
 
 

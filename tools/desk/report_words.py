@@ -80,14 +80,22 @@ def refused(made):
     return [step for step in made if not step.is_done and not is_empty(step)]
 
 
-def left_in_queues(states):
-    """(an object's number, whether a value of its queue was lost and no receive said so) of the queues with values at the end."""
-    statuses = states[-1].statuses if states else {}
-    return [(number, status == LIMIT) for number, status in statuses.items() if status in (DONE, LIMIT)]
+def empties(step, number):
+    """Whether a call empties the queue of an object."""
+    return step.is_done and (step.call == "start" or step.call == "initialise" and step.numbers[0] == number)
 
 
-def left_words(was_lost):
-    return "values wait in its queue that nobody took" + (", and values were lost" if was_lost else "")
+def left_in_queues(made, states):
+    """(an object's number, words, how many losses no receive told of) of values that were left in queues: where a call emptied one, and at the end."""
+    found = []
+    for number, last in states[-1].statuses.items() if states else []:
+        emptied = [before.statuses.get(number) for step, before in zip(made[1:], states) if empties(step, number)]
+        for statuses, words in ((emptied, "its queue was emptied by a start or an initialise, with values that nobody took"),
+                                ([last], "values wait in its queue that nobody took")):
+            losses = statuses.count(LIMIT)
+            if losses or DONE in statuses:
+                found.append((number, words + (", and values were lost" if losses else ""), losses))
+    return found
 
 
 def lost(made):
