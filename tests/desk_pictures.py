@@ -3,7 +3,8 @@
 prints examples/van.stdout. For the van, 5,000 ticks, the largest table, scripts that do little or nothing and awkward titles: the SVG is well-formed, refers
 to nothing outside, has every request, confirm, indication, missed deadline, mark and dot that the test counts from the calls and answers itself, and its
 texts lie inside and not on each other. The report's tags are closed, it refers to nothing outside, all frames are in it, and each value in units is what
-the test's own walk over the bits gives. Where chromium and poppler are on the machine, the report is opened and printed with no network. Needs
+the test's own walk over the bits gives; so are changes of named values, readings that are not expected, gaps with missed deadlines and what is left in queues,
+also with messages that not each frame holds. Where chromium and poppler are on the machine, the report is opened and printed with no network. Needs
 target/bin/drive."""
 import os
 import re
@@ -28,8 +29,8 @@ from report_checks import check_html, check_references
 DRIVE = os.path.join(TOP, "target", "bin", "drive")
 SPACE = "{http://www.w3.org/2000/svg}"
 KINDS = ["request", "confirm", "no_confirm", "indication", "error", "deadline", "given", "taken", "lost", "marked"]
-MET = ["values left", "values left and lost", "values emptied", "values emptied and lost", "no lost values", "a change", "below the expected", "above the expected",
-       "several deadlines in one gap", "a gap to the end"]
+MET = ["values left", "values left and lost", "values emptied", "values emptied and lost", "no lost values", "a change",
+       "below the expected", "above the expected", "several deadlines in one gap", "a gap to the end"]
 LEAST_TEXT = 9
 LEAST_RADIUS = 2.5 * 1988 / 1116  # of a dot where the widest picture fills a report of the usual width
 MOST_WIDTH = 2000
