@@ -53,13 +53,14 @@ class Questions:
         self.lines = [f"marks {number}" for number in range(self.objects)] + [f"receive {number}" for number in self.unqueued]
         self.lines += [f"status {number}" for number in self.queued]
 
-    def answers(self, printed):
-        """From what drive printed for the lines."""
+    def answers(self, printed, before):
+        """From what drive printed for the lines; statuses as before are those of before, which saves memory."""
         values = [text.split(" val ") for text in printed]
         words = [int(value[1]) if len(value) == 2 else None for value in values]
         queues_at = self.objects + len(self.unqueued)
+        statuses = dict(zip(self.queued, (int(value[0]) for value in values[queues_at:])))
         return Answers(words[:self.objects], dict(zip(self.unqueued, words[self.objects:queues_at])),
-                       dict(zip(self.queued, (int(value[0]) for value in values[queues_at:]))))
+                       before.statuses if statuses == before.statuses else statuses)
 
 
 def played(board, script, script_file, program=DRIVE):
@@ -81,6 +82,6 @@ def played(board, script, script_file, program=DRIVE):
         if next(answers) != printed:
             raise wrong(script_file, f"line {step.line}", "is answered otherwise where marks, values and statuses are asked for between the calls")
         if asks_now:
-            last = questions.answers([next(answers) for _ in questions.lines])
+            last = questions.answers([next(answers) for _ in questions.lines], last)
         states.append(last)
     return made, states
