@@ -29,7 +29,7 @@ from report_checks import check_html, check_references
 DRIVE = os.path.join(TOP, "target", "bin", "drive")
 SPACE = "{http://www.w3.org/2000/svg}"
 KINDS = ["request", "confirm", "no_confirm", "indication", "error", "deadline", "given", "taken", "lost", "marked"]
-MET = ["values left", "values left and lost", "values emptied", "values emptied and lost", "no lost values", "a change",
+MET = ["values left", "values left and lost", "values emptied", "values emptied and lost", "no lost values", "a change", "taken with the next",
        "below the expected", "above the expected", "several deadlines in one gap", "a gap to the end"]
 LEAST_TEXT = 9
 LEAST_RADIUS = 2.5 * 1988 / 1116  # of a dot where the widest picture fills a report of the usual width
@@ -49,17 +49,19 @@ SUMMARY = ["Front humidity: 45.0 to 61.4 %, last 50.1 %, in 7 requested frames",
            "Shock: values were lost, at least 1",
            "Shock: values wait in its queue that nobody took"]
 
-# Of the network with pages: a frame for one page, one for the other, and again, with sends of both pages.
+# Of the network with pages: frames for one page and for the other, one of which a filter drops, and sends of both pages.
 BY_HAND = """start
 indication 1 1 002A0000
 initialise 6 0
 tick
 indication 1 1 01960200
+indication 1 1 002B0000
 tick
-indication 1 1 00960000
+indication 1 1 00970000
 tick
 indication 1 1 01010100
-indication 1 1 00010000
+indication 1 1 00030000
+initialise 5 3
 send 1 50
 confirm 0 1
 send 0 1
@@ -68,8 +70,8 @@ send 2 2
 tick
 receive 7
 """
-DRAWN = {"Page": [0, 1, 1], "Warmth": [50], "Door": [2, 2], "CasePage": [0, 1, 0, 1, 0], "CaseWarmth": [0, 42, 150, 1], "CaseDoor": [0, 2, 1],
-         "CaseLock": [], "CaseShock": [], "CaseSpare": [0, 150]}
+DRAWN = {"Page": [0, 1, 1], "Warmth": [50], "Door": [2, 2], "CasePage": [0, 1, 0, 1, 0], "CaseWarmth": [0, 42, 43, 151, 3], "CaseDoor": [0, 2, 1, 3],
+         "CaseLock": [], "CaseShock": [], "CaseSpare": [0, 151]}
 OUTSIDE = ["Warmth: above the expected 22.5 °C in 1 requested frame, for 50 ms", "Case warmth: above the expected 60.0 °C in 1 reading, for 50 ms",
            "Case shock: below the expected 1.0 g in 1 reading"]
 
@@ -186,6 +188,7 @@ def all_journeys(folder):
     plans = [(f"{LONG} ticks", van, wandering(van, LONG, 1), "A long journey"), ("case", case, wandering(case, 300, 2), "The case"),
              ("pages", pages, wandering(pages, 200, 4), "Pages"), ("pages by hand", pages, BY_HAND, "Pages"),
              ("emptied", pages, "start\n" + "indication 1 1 00000000\n" * 4 + "start\ntick\n", "Emptied"),
+             ("drained", pages, "start\n" + "".join(f"indication 1 1 01000{lock}00\n" for lock in (0, 2, 0)) + "receive 6\n" * 3 + "tick\n", "Drained"),
              ("largest", big, wandering(big, 40, 3), "Largest"), ("largest, empty", big, "", "Empty"), ("empty", van, "", "Empty"),
              ("never started", van, "tick\nsend 0 450\nconfirm 0 1\ntick\n", "Never"), ("one tick", van, "start\ntick\n", "One tick"),
              ("a line that can't be read", van, "start\nsend 0 500\nno such call\ntick\n", "Cut"), ("no line feed", van, "start\nsend 0 500\ntick", "Cut")]

@@ -130,6 +130,7 @@ def check_readings(journey, expected, tables, met):
     check_gaps(journey, expected, tables.get("faults", [])[1:], met)
     changes = check_changes(journey, expected, tables.get("changes", [])[1:])
     met["a change"] += changes
+    met["taken with the next"] += "taken with the next" in journey.html
     return compared + changes
 
 
