@@ -80,8 +80,9 @@ def check_html(journey, expected, met):
     rows = reader.tables.get("frames", [[]])[1:]
     if len(rows) != len(expected.frames):
         journey.fail(f"the report has {len(rows)} frames, the run {len(expected.frames)}")
-    shown = sorted((int(row[1][0]), row[4][0], row[5][0], tuple(row[6])) for row in rows)
-    worked_out = sorted((line, ipdu.name, frame.hex(" ").upper(), tuple(values_of(journey, number, frame)))
+    shown = sorted((int(row[1][0]), row[2][0], row[4][0], row[5][0], tuple(row[6])) for row in rows)
+    directions = {1: "requested", 2: "received"}
+    worked_out = sorted((line, directions[expected.records[number].direction], ipdu.name, frame.hex(" ").upper(), tuple(values_of(journey, number, frame)))
                         for line, number, frame in expected.frames for ipdu in [journey.board.ipdus[number]])
     for one, other in zip(shown, worked_out):
         if one != other:

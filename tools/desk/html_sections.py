@@ -254,7 +254,7 @@ def refused_table(made, clock):
 
 def frames(lanes):
     """(time, line, direction, I-PDU's number, bytes) of all frames, in the order of the calls."""
-    directions = {"request": "sent", "indication": "received"}
+    directions = {"request": "requested", "indication": "received"}
     return sorted((event.at, event.line, directions[event.what], lane.number, event.frame) for lane in lanes for event in lane.events
                   if event.what in directions)
 
@@ -267,4 +267,4 @@ def frame_table(board, lanes, clock):
                          for entry in carried[number] if entry.of.is_in(frame))
         rows.append([clock.words(at), line, direction, identifier(board.ipdus[number]), board.ipdus[number].name,
                      Markup(f"<code>{frame.hex(' ').upper()}</code>"), Markup(values.rstrip())])
-    return table("frames", ["time", "line", "direction", "identifier", "I-PDU", "bytes", "values"], rows, "No frame was sent or received.")
+    return table("frames", ["time", "line", "direction", "identifier", "I-PDU", "bytes", "values"], rows, "No frame was requested or received.")
