@@ -7,8 +7,8 @@ from decimal import Decimal
 
 from archive import Layer
 from desk import bits
-from desk.network import FILTERS, MIXED, PERIODIC, Filter, Ipdu, Message, Network, Receiving, Scaling
-from desk.records import RECEIVE, SEND, WHOLE, ipdu_records, object_records
+from desk.network import FILTERS, Filter, Ipdu, Message, Network, Receiving, Scaling
+from desk.records import MIXED, PERIODIC, RECEIVE, SEND, WHOLE, ipdu_records, object_records
 from desk.source import load
 
 EXAMPLES = os.path.join(os.path.dirname(os.path.realpath(__file__)), "..", "..", "examples")

@@ -4,8 +4,7 @@ from decimal import Decimal, localcontext
 from fractions import Fraction
 
 from . import bits
-from .records import (BIG, MIXED, MOST_BITS, NONE, PERIODIC, RECEIVE, SEND, SIGNED, TRIGGERED, WHOLE, IpduRecord, ObjectRecord,
-                      table_bytes)
+from .records import BIG, MOST_BITS, RECEIVE, SEND, SIGNED, TRIGGERED, WHOLE, IpduRecord, ObjectRecord, table_bytes
 
 MODES = ["direct", "periodic", "mixed"]
 TRANSFERS = ["triggered", "pending"]
@@ -242,7 +241,3 @@ class Network:
     def milliseconds(self, ticks):
         """For people: no zeros behind the point."""
         return f"{(ticks * self.tick).normalize():f}"
-
-
-__all__ = ["Board", "Filter", "FILTERS", "Ipdu", "Message", "MessageObject", "MIXED", "MODES", "Network", "NONE", "PERIODIC", "Receiving",
-           "Scaling", "TRANSFERS"]

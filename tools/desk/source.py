@@ -7,8 +7,8 @@ from decimal import Decimal
 from . import bits
 from .database import ENDINGS
 from .merge import database_file, merged
-from .network import MIXED, MODES, PERIODIC, TRANSFERS, Ipdu, Message, Network, Receiving, Scaling
-from .records import MOST_BITS, MOST_DEPTH, MOST_DEPTHS, MOST_IPDUS, MOST_LENGTH, MOST_OBJECTS, RECEIVE, SEND
+from .network import MODES, TRANSFERS, Ipdu, Message, Network, Receiving, Scaling
+from .records import MIXED, MOST_BITS, MOST_DEPTH, MOST_DEPTHS, MOST_IPDUS, MOST_LENGTH, MOST_OBJECTS, PERIODIC, RECEIVE, SEND
 from .sections import NO_DEFAULT, Section
 from .wrong import Wrong, line, read_text, wrong
 

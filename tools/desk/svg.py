@@ -1,8 +1,8 @@
 """The picture of a journey: what the I-PDUs, the messages and the layer went through, over time, as SVG with no reference to anything outside."""
 import math
 
-from .network import NONE
 from .readings import layer_spans, mark_spans, readings
+from .records import NONE
 from .report_words import Clock, escaped, titled
 from .svg_draw import LARGE, NORMAL, SMALL, Canvas, definitions, shortened, text_width
 from .svg_lanes import NAMES_AT, PLOT_AT, THIN, IpduLane, MessageLane, Times, near
