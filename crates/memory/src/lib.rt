@@ -1,5 +1,7 @@
 // Little-endian numbers in lent bytes, bytes cleared, decimals put as text, and the order of values that are signed or not. Every caller
 // has checked that the bytes are there.
+#![tactic(auto)]
+
 mod integers;
 mod texts;
 

@@ -1,0 +1,6 @@
+-- `memory::texts::put_decimal`: the measure is the number.
+-- Assumes nothing.
+use Rattle.memory.proofs.texts.+put_decimal.Given as goal
+
+abbrev pub decreases-put_decimal : goal.decreases-put_decimal
+decreases-put_decimal l = l.n
