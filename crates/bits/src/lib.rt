@@ -3,6 +3,8 @@
 // A frame is a slice of 1 to 8 bytes; a slot is 8 bytes of lent memory, in which the interaction layer keeps an I-PDU.
 // `pack`, `unpack` and `has_room` take anything and refuse what the rules leave out. `pack_slot` and `unpack_slot` are for
 // callers that have checked the place and have its `position`: a word operation each, with no loop over bits and no branch.
+#![tactic(auto)]
+
 mod walk;
 mod word;
 

@@ -1,1 +1,3 @@
 // Proved cases: definitions in specs/, proofs in proofs/, no code.
+
+#![tactic(auto)]

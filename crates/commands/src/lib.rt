@@ -1,5 +1,7 @@
 // The commands of a script (W-201) over table, memory and area: each is admitted or refused as the layer's calls are, but where
 // table and memory are known to be right only a start checks the table again; its line is put into a lent buffer.
+#![tactic(auto)]
+
 mod examining;
 mod performing;
 

@@ -1,5 +1,7 @@
 // The configuration that a table describes: what the records of an accepted table mean, the length of an I-PDU, and whether an
 // object is signed.
+#![tactic(auto)]
+
 mod decode;
 
 pub use decode::{decode_ipdu, decode_object, ipdu_length, is_signed};

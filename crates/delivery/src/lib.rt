@@ -1,4 +1,6 @@
 // Delivery to the objects with a sending object or an I-PDU, and marks on the objects of an I-PDU, by rising number.
+#![tactic(auto)]
+
 mod due;
 
 ghost use Rattle.std.specs.Prelude.{◌≡◌, ◌≤◌, ◌<◌, length};

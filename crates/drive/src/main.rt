@@ -1,4 +1,6 @@
 // Runs a script over a table and prints a line for each call: `drive TABLE SCRIPT`. docs/SCRIPT.md has the language.
+#![tactic(auto)]
+
 mod running;
 
 use libc::{STDERR_FILENO, STDOUT_FILENO};

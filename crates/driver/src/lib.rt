@@ -1,5 +1,7 @@
 // Runs the lines of a script (W-201) over a table and lent memory, part by part, and puts what is printed into a lent buffer. Table and
 // memory are checked once in a part and not at each call; a start checks the table again.
+#![tactic(auto)]
+
 mod lines;
 
 ghost use Rattle.std.specs.Prelude.{not, ◌&&◌, [], ◌≡◌, ◌+◌, ◌≤◌, leb, length};

@@ -1,5 +1,7 @@
 // The layer and the check of a table under C names, for callers in C and Rust (include/birnenschloss.h, bindings/rust). Each
 // function forwards to a proved call and has its contract; none asks anything of its caller.
+#![tactic(auto)]
+
 mod forwarded;
 mod groups;
 mod sheets;

@@ -1,4 +1,6 @@
 // Files for the programs: one read whole into lent bytes. Of a file that can't be read standard error says so.
+#![tactic(auto)]
+
 ghost use Rattle.io.specs.Counts.{IsPrefixLen};
 
 // Whether a file could be read, and how many bytes of it.

@@ -1,4 +1,6 @@
 // Filters of message objects (document 01, "Filters"; document 001, table 1; W-203, W-207), under OSEK COM's names.
+#![tactic(auto)]
+
 ghost use Rattle.std.specs.Prelude.{◌&&◌, ◌≡◌, ◌-◌, leb};
 ghost use Rattle.memory.specs.Integers.{at_most};
 ghost use Rattle.filter.specs.Filters.{passes, greatest_count, next_count, CountFits, filter_of, filter_right};

@@ -1,1 +1,3 @@
 // Proved examples of the group send. No code.
+
+#![tactic(auto)]

@@ -1,4 +1,6 @@
 // The calls about I-PDUs and time: indication, confirm, tick, start and stop periodic, and stop, behind the checks.
+#![tactic(auto)]
+
 mod frames;
 mod running;
 mod ticking;

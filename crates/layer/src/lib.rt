@@ -1,5 +1,7 @@
 // The interaction layer: the calls of document 01 over a table and a working memory that the caller lends. Each checks table,
 // memory and numbers itself; a refused one changes no byte.
+#![tactic(auto)]
+
 mod checks;
 mod objects;
 mod starting;

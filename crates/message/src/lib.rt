@@ -1,5 +1,7 @@
 // One message object: filtering, delivery, its queue, its marks, and the bits of an object in its I-PDU. Its functions work on an accepted
 // table and a working memory that was found in range.
+#![tactic(auto)]
+
 mod objects;
 
 pub use objects::{deliver, filter_sent, initialise, pack, unpack};

@@ -1,4 +1,6 @@
 // The calls that are given an object: send, receive, status, marks, clear marks and initialise, behind the checks.
+#![tactic(auto)]
+
 mod objects;
 mod sending;
 

@@ -1,4 +1,6 @@
 // The queue of a message object, a ring of as many places as its depth, in working memory. Its functions work on a row in range.
+#![tactic(auto)]
+
 ghost use Rattle.std.specs.Prelude.{◌≡◌, ◌+◌, ◌≤◌, ◌<◌, length};
 ghost use Rattle.table.specs.Records.{most_queued};
 ghost use Rattle.memory.specs.Bytes.{bytes_of, replaced};

@@ -1,5 +1,7 @@
 // Whether every stored number is in its range, for a table that was accepted. Numbers are read where they lie, each where a
 // range first asks for it.
+#![tactic(auto)]
+
 ghost use Rattle.std.specs.Prelude.{not, ◌≡◌, ◌-◌, ◌/◌, ◌%◌, ◌≤◌, ◌<◌, max, leb, length};
 ghost use Rattle.memory.specs.Search.{any_below};
 ghost use Rattle.table.specs.Records.{most_ipdus, ipdu_record, object_record};

@@ -1,4 +1,6 @@
 // The lines that are printed for the commands of a script (W-201), put into a lent buffer. A line takes at most `LONGEST_LINE` bytes.
+#![tactic(auto)]
+
 mod requests;
 mod values;
 

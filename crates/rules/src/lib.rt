@@ -1,1 +1,3 @@
 // Rules of document 01 as proved examples: definitions in specs/, proofs in proofs/, no code.
+
+#![tactic(auto)]

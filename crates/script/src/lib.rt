@@ -1,4 +1,6 @@
 // The lines of a script (W-201): a line's bytes as a command.
+#![tactic(auto)]
+
 mod lines;
 mod names;
 

@@ -1,4 +1,6 @@
 // Packing of a slot under C names, for bench/packing.sh alone. These functions check nothing: the benchmark meets their `requires`.
+#![tactic(auto)]
+
 ghost use Rattle.std.specs.Prelude.{◌≡◌, ◌≤◌, ◌<◌, length, false};
 ghost use Rattle.memory.specs.Bytes.{part, replaced};
 ghost use Rattle.bits.specs.Bits.{packed, unpacked, extended};

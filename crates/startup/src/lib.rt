@@ -1,4 +1,6 @@
 // What a start writes: all of working memory, from the table.
+#![tactic(auto)]
+
 ghost use Rattle.std.specs.Prelude.{◌≡◌, ◌+◌, ◌≤◌, ◌<◌, eqb, length};
 ghost use Rattle.memory.specs.Search.{pick, fold};
 ghost use Rattle.table.specs.Check.{Shape, Right};

@@ -1,5 +1,7 @@
 // Working memory: where each number of an I-PDU and of a message object is stored, and what is stored there.
 // docs/MEMORY.md is the list of stored numbers.
+#![tactic(auto)]
+
 mod rows;
 
 pub use rows::{ipdu_state, object_state, set_ipdu_state, set_object_state};

@@ -1,4 +1,6 @@
 // The table of I-PDUs and message objects: its records, and the check that every call makes (document 01, "The table").
+#![tactic(auto)]
+
 mod records;
 mod rules;
 mod search;

@@ -1,4 +1,6 @@
 // Reads a table on standard input and prints one line: `ok I O` with its counts, or `bad PLACE`.
+#![tactic(auto)]
+
 use libc::{STDIN_FILENO, STDOUT_FILENO};
 use table::Verdict;
 

@@ -1,5 +1,7 @@
 // Time: the period of an I-PDU, and what a tick does to its stored times. Its functions work on an accepted table and a working
 // memory that was found in range.
+#![tactic(auto)]
+
 mod periods;
 mod ticks;
 
