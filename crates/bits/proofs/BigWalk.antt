@@ -1,6 +1,6 @@
 -- Document 01's list of 64 places gives the big walk. The library does not read it: it is an example that the definitions are held to.
 -- Assumes nothing.
-use Rattle.std.proofs.Common.{◌≡◌, ℕ, ◌+◌, ◌<◌, List, [], ◌∷◌, get_or, sym, refl, ap, ◌∙◌, arith}
+use Rattle.std.proofs.Common.{◌≡◌, ℕ, ◌+◌, ◌<◌, List, ◌∷◌, get_or, sym, refl, ap, ◌∙◌, arith, []}
 use Rattle.bits.specs.declared.Order.TheVariants.{Big}
 use Rattle.bits.specs.Bits.{place}
 use Rattle.bits.specs.Slots.{position}

@@ -1,9 +1,8 @@
 -- A frame is copied to the front of a slot, is packed or unpacked there, and is copied back: what `pack` and `unpack` rely on.
 -- Assumes nothing.
-use Rattle.std.proofs.Common.{◌≡◌, ℕ, ◌<◌, ◌≤◌, Bool, false, not, List, ◌++◌, length, take, drop, sym, ap, append-nil, le_of_eq, arith, drop_of_length-le, length-take-le}
-use lib.Seq.{take-length}
+use Rattle.std.proofs.Common.{◌≡◌, ℕ, ◌<◌, ◌≤◌, Bool, List, ◌∷◌, ◌++◌, length, take, drop, ap, ◌∙◌, arith, length-append, length-drop, length-take-le, true, []}
 use Rattle.memory.specs.Bytes.{part, replaced}
-use Rattle.memory.proofs.Parts.{part_whole, replaced_whole}
+use Rattle.memory.proofs.Parts.{part_whole, replaced_whole, replaced_length}
 use Rattle.bits.specs.declared.Order.{Order}
 use Rattle.bits.specs.declared.Packing.{Packing}
 use Rattle.bits.specs.declared.Unpacking.{Unpacking}
@@ -13,7 +12,25 @@ use Rattle.bits.specs.Slots.{position, InSlot}
 use Rattle.bits.proofs.Places.{position_twice}
 use Rattle.bits.proofs.RoundTrip.{Allowed, passed, packed_length, packed_front, unpacked_front}
 
-module _ (o : Order) (start size L : ℕ) {b : Bool} (test : b ≡ is_place o start size L) (taken : not b ≡ false) where
+-- a slot before a frame is copied into it
+abbrev pub cleared : List ℕ
+cleared = 0 ∷ 0 ∷ 0 ∷ 0 ∷ 0 ∷ 0 ∷ 0 ∷ 0 ∷ []
+
+pub front_long : (n : ℕ) → n ≤ 8 → length (take n cleared) ≡ n
+front_long n short = length-take-le n cleared short
+
+pub slot_long : (s : List ℕ) (n : ℕ) → n ≤ 8 → length s ≡ length (take n cleared) → length (s ++ drop n cleared) ≡ 8
+slot_long s n short long = simp (length-append, length-drop) (omega (arith, short, long, front_long n short))
+
+-- a slot that a message is packed into keeps its length
+pub slot_kept : (o : Order) (start size v : ℕ) (s : List ℕ) {q : List ℕ} → length s ≡ 8
+    → q ≡ replaced 0 (packed o start size v (part 0 8 s)) s → length q ≡ 8
+slot_kept o start size v s eight stored =
+    let own : length (packed o start size v (part 0 8 s)) ≡ length s =
+    packed_length o start size v (part 0 8 s) ∙ ap length (part_whole 8 s eight) in
+    rw (stored, replaced_length 0 (packed o start size v (part 0 8 s)) s (omega (arith, own))) eight
+
+module _ (o : Order) (start size L : ℕ) {b : Bool} (test : b ≡ is_place o start size L) (taken : b ≡ true) where
   ok : Allowed o start size L
   ok = passed o start size L b test taken
 
@@ -29,24 +46,10 @@ module _ (o : Order) (start size L : ℕ) {b : Bool} (test : b ≡ is_place o st
   pub is_packed : Packing.Packed ≡ packing o start size L
   is_packed = rw ok.holds
 
-  -- the frame's bytes at the front of the slot
-  module _ (s q : List ℕ) {n : ℕ} (all : n ≡ L) (eight : length s ≡ 8) (kept : length q ≡ length s) where
-    pub front_within : n ≤ length q
-    front_within = omega (arith, frame_short)
-
-    pub front_long : n ≡ length (take n q)
-    front_long = sym (length-take-le n q front_within)
-
-    pub front_fits : length (take n q) ≤ L
-    front_fits = omega (arith, front_long)
-
 module _ (o : Order) (start size : ℕ) (f z : List ℕ) {b : Bool} {at : ℕ} {s : List ℕ} (test : b ≡ is_place o start size (length f))
-    (taken : not b ≡ false) (along : at ≡ position o start) (copied : s ≡ take (length f) f ++ z) (eight : length s ≡ 8) where
+    (taken : b ≡ true) (along : at ≡ position o start) (front : s ≡ f ++ z) (eight : length s ≡ 8) where
   back : position o at ≡ start
   back = rw along (position_twice o start (starts_in_slot o start size (length f) test taken))
-
-  front : s ≡ f ++ z
-  front = rw (take-length f) at copied
 
   pub unpacks : (signed : Bool) {v : ℕ} → v ≡ extended signed size (unpacked o (position o at) size (part 0 8 s))
       → Unpacking.Value v ≡ unpacking o signed start size f
@@ -55,12 +58,9 @@ module _ (o : Order) (start size : ℕ) (f z : List ℕ) {b : Bool} {at : ℕ} {
       rw (allowed.holds, e, back, part_whole 8 s eight, front)
       (ap (λ (n : ℕ). Unpacking.Value (extended signed size n)) (unpacked_front o start size f z allowed.fits))
 
-  pub packs : (v : ℕ) {n : ℕ} {q after : List ℕ} → n ≡ length f → q ≡ replaced 0 (packed o (position o at) size v (part 0 8 s)) s
-      → after ≡ take (length (take n q)) (take n q) ++ drop (length (take n q)) f → after ≡ frame_after o start size v f
-  packs v {n} {q} {after} all stored returned =
+  pub packs : (v : ℕ) {q after : List ℕ} → q ≡ replaced 0 (packed o (position o at) size v (part 0 8 s)) s
+      → after ≡ take (length f) q → after ≡ frame_after o start size v f
+  packs v {q} stored returned =
       let whole : q ≡ packed o start size v s =
       rw (stored, back, part_whole 8 s eight) (replaced_whole (packed o start size v s) s (packed_length o start size v s)) in
-      let fore : take n q ≡ packed o start size v f = rw (whole, front, all) (packed_front o start size v f z) in
-      let same : length (packed o start size v f) ≡ length f = packed_length o start size v f in
-      rw ((ok o start size (length f) test taken).holds, returned, fore, take-length (packed o start size v f), drop_of_length-le f (le_of_eq (sym same)))
-      (append-nil (packed o start size v f))
+      rw ((ok o start size (length f) test taken).holds, returned, whole, front) (packed_front o start size v f z)

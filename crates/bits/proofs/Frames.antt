@@ -1,6 +1,6 @@
 -- Laws of `frame_bit` and `frame`: a frame is its bits, and so is the number of its bytes.
 -- Assumes nothing.
-use Rattle.std.proofs.Common.{◌≡◌, ℕ, zero, suc, ◌+◌, ◌-◌, ◌*◌, ◌/◌, ◌%◌, ◌<◌, ◌≤◌, List, [], ◌∷◌, length, take, sym, refl, ap, ◌∙◌, ⊎_elim, le_of_suc-le-suc, not-suc-le-zero, arith}
+use Rattle.std.proofs.Common.{◌≡◌, ℕ, zero, suc, ◌+◌, ◌-◌, ◌*◌, ◌/◌, ◌%◌, ◌<◌, ◌≤◌, List, ◌∷◌, length, take, sym, refl, ap, ◌∙◌, ⊎_elim, le_of_suc-le-suc, not-suc-le-zero, arith, []}
 use Rattle.bits.specs.Bits.{bit, number, frame_bit, frame_of}
 use Rattle.memory.specs.Bytes.{Bytes, value, bytes_of}
 use Rattle.memory.proofs.Tests.{lt_or_le}

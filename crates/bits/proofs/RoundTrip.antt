@@ -1,7 +1,6 @@
 -- The laws of packing that callers cite: the stored reading, every other bit, the round trip; and that a slot's word meets them.
 -- Assumes nothing.
-use Rattle.std.proofs.Common.{◌≡◌, ℕ, zero, suc, ◌*◌, ◌/◌, ◌%◌, ◌^◌, ◌<◌, ◌≤◌, Bool, true, false, not, eqb, leb, List, [], ◌∷◌, ◌++◌, length, take, sym, refl, ap, ◌∙◌, ⊎_elim, not-suc-le-zero, arith, length-append, eq-eqb, ne_eqb, leb-true}
-use borrow.Author.Tests.{not-false}
+use Rattle.std.proofs.Common.{◌≡◌, ℕ, zero, suc, ◌*◌, ◌/◌, ◌%◌, ◌^◌, ◌<◌, ◌≤◌, Bool, true, false, eqb, leb, List, ◌∷◌, ◌++◌, length, take, sym, refl, ap, ◌∙◌, ⊎_elim, not-suc-le-zero, arith, length-append, eq-eqb, ne_eqb, leb-true, []}
 use lib.ListN.{get_or-append}
 use Rattle.memory.specs.Bytes.{Bytes}
 use Rattle.bits.specs.declared.Order.{Order}
@@ -153,5 +152,5 @@ allowed o start size L e =
       slot = record { some = fits.some; most = search leb-true; inside = along.ends };
     }
 
-pub passed : (o : Order) (start size L : ℕ) (b : Bool) → b ≡ is_place o start size L → not b ≡ false → Allowed o start size L
-passed o start size L b e t = allowed o start size L (sym e ∙ not-false b t)
+pub passed : (o : Order) (start size L : ℕ) (b : Bool) → b ≡ is_place o start size L → b ≡ true → Allowed o start size L
+passed o start size L b e t = allowed o start size L (sym e ∙ t)

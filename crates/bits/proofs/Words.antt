@@ -1,7 +1,6 @@
 -- What `pack_slot` and `unpack_slot` compute on a slot's word is packing and unpacking.
 -- Assumes nothing.
-use Rattle.std.proofs.Common.{◌≡◌, ℕ, ◌+◌, ◌-◌, ◌<◌, ◌≤◌, List, length, sym, ap, ◌∙◌, ⊎_elim, arith}
-use lib.Bits.{bit_xor}
+use Rattle.std.proofs.Common.{◌≡◌, ℕ, ◌+◌, ◌-◌, ◌<◌, ◌≤◌, List, length, sym, ap, ◌∙◌, ⊎_elim, arith, bit_xor}
 use Rattle.memory.specs.Bytes.{Bytes, value, bytes_of, number_at, part, replaced}
 use Rattle.memory.proofs.Parts.{part_bytes, part_length}
 use Rattle.bits.specs.declared.Order.{Order}

@@ -1,7 +1,7 @@
 -- Laws of `bit_xor`, the code's `^`: a word changed by its difference from another is the other, also with the difference turned; a
 -- field whose differing bits are inverted holds the new value. Assumes nothing.
-use Rattle.std.proofs.Common.{◌≡◌, ℕ, zero, suc, ◌+◌, ◌-◌, ◌*◌, ◌/◌, ◌%◌, ◌^◌, ◌<◌, ◌≤◌, sym, refl, ap, ◌∙◌, ap₂, add-zero, mod-lt, div-add-mod', arith, pow_pos}
-use lib.Bits.{bit_xor, differ, xor_step, xor_shr, xor_mod, xor_lt, xor_block, xor_zero_r}
+use Rattle.std.proofs.Common.{◌≡◌, ℕ, zero, suc, ◌+◌, ◌-◌, ◌*◌, ◌/◌, ◌%◌, ◌^◌, ◌<◌, ◌≤◌, sym, refl, ap, ◌∙◌, ap₂, add-zero, mod-lt, div-add-mod', arith, pow_pos, bit_xor}
+use lib.Bits.{differ, xor_step, xor_shr, xor_mod, xor_lt, xor_block, xor_zero_r}
 use lib.Pow.{mod-mod-pow}
 use Rattle.memory.specs.Bytes.{bytes_of}
 use Rattle.bits.specs.declared.Order.{Order}

@@ -18,29 +18,29 @@ pub use walk::position;
 pub use word::power_of_two;
 
 // The byte order of a message in its I-PDU.
-#[derive(Drop)]
+#[derive(Clone, Copy)]
 pub enum Order {
     Little,
     Big,
 }
 
 // A size in bits: the length of a message.
-#[derive(Drop)]
+#[derive(Clone, Copy)]
 pub struct BitSize(pub u32);
 
 // A length in bytes: that of an I-PDU.
-#[derive(Drop)]
+#[derive(Clone, Copy)]
 pub struct ByteLength(pub u32);
 
 // What `pack` answers.
-#[derive(Drop)]
+#[derive(Clone, Copy)]
 pub enum Packing {
     Packed,
     Refused,
 }
 
 // What `unpack` answers.
-#[derive(Drop)]
+#[derive(Clone, Copy)]
 pub enum Unpacking {
     Value(u32),
     Refused,
@@ -82,9 +82,10 @@ pub fn pack(frame: &mut [u8], order: Order, start: u32, size: BitSize, value: u3
     }
     let at = position(order, start);
     let mut slot = [0u8; 8];
-    let n = bytes::copy(frame, &mut slot);
+    let n = frame.len();
+    slot[..n].copy_from_slice(frame);
     pack_slot(&mut slot, 0, order, at, size, value);
-    bytes::copy(&slot[..n], frame);
+    frame.copy_from_slice(&slot[..n]);
     Packing::Packed
 }
 
@@ -98,7 +99,7 @@ pub fn unpack(frame: &[u8], order: Order, signed: bool, start: u32, size: BitSiz
     }
     let at = position(order, start);
     let mut slot = [0u8; 8];
-    bytes::copy(frame, &mut slot);
+    slot[..frame.len()].copy_from_slice(frame);
     Unpacking::Value(unpack_slot(&slot, 0, order, signed, at, size))
 }
 

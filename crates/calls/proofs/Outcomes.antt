@@ -39,8 +39,8 @@ use Rattle.calls.specs.Calls.{HasIpdu, is_object, is_ipdu, wants, request, send_
 use Rattle.calls.specs.Calls.{marks_in, clear_marks_in, indication_of, indication_in, confirm_in}
 use Rattle.calls.proofs.Records.{object_there, ipdu_there, ipdu_short, has_ipdu, wants_some}
 
-is_true : {test found : Bool} → found ≡ test → not found ≡ false → test ≡ true
-is_true e passed = sym e ∙ not-false _ passed
+is_true : {test found : Bool} → found ≡ test → found ≡ true → test ≡ true
+is_true e passed = sym e ∙ passed
 
 -- a number past the last
 pub past_all : {A : Type 0} (i n : ℕ) (x y : A) → n ≤ i → y ≡ pick (ltb i n) x y
@@ -64,7 +64,7 @@ module _ (c : Counts) (i : ℕ) (m : List ℕ) (s : ObjectState) (low : i < c.ob
 
 -- ---- an object that was found, of its kind
 
-module _ (t : List ℕ) (c : Counts) (kind i : ℕ) (found : Bool) (e : found ≡ is_object t c kind i) (there : not found ≡ false) where
+module _ (t : List ℕ) (c : Counts) (kind i : ℕ) (found : Bool) (e : found ≡ is_object t c kind i) (there : found ≡ true) where
   pub found_object : i < c.objects
   found_object = object_there t c kind i (is_true e there)
 
@@ -100,7 +100,7 @@ module _ (t : List ℕ) (c : Counts) (kind i : ℕ) (found : Bool) (e : found �
 
 -- ---- receive and status
 
-module _ (t : List ℕ) (c : Counts) (i : ℕ) (m : List ℕ) (found : Bool) (e : found ≡ is_object t c receiving i) (there : not found ≡ false)
+module _ (t : List ℕ) (c : Counts) (i : ℕ) (m : List ℕ) (found : Bool) (e : found ≡ is_object t c receiving i) (there : found ≡ true)
     (r : ObjectRecord) (same : r ≡ object_record t c.ipdus i) where
   pub received : (s : ObjectState) → r.depth ≡ 0 → s ≡ object_state m i → outcome (Done s.value) m [] ≡ receive_in t c i m
   unfolding receive_in
@@ -118,10 +118,10 @@ module _ (t : List ℕ) (c : Counts) (i : ℕ) (m : List ℕ) (found : Bool) (e 
   unfolding status_in
   status_queued s a some row does = rw (is_true e there, ← same, ne_eqb _ _ some, does, row)
 
-pub status_none : (t : List ℕ) (c : Counts) (i : ℕ) (m : List ℕ) (found : Bool) → found ≡ is_object t c receiving i → not found ≡ true
+pub status_none : (t : List ℕ) (c : Counts) (i : ℕ) (m : List ℕ) (found : Bool) → found ≡ is_object t c receiving i → found ≡ false
     → outcome WrongId m [] ≡ status_in t c i m
 unfolding status_in
-status_none t c i m found e failed = rw (sym e ∙ not-true _ failed)
+status_none t c i m found e failed = rw (sym e ∙ failed)
 
 module _ (depth i : ℕ) (m : List ℕ) (s : ObjectState) (row : s ≡ object_state m i) where
   pub queue_empty : s.count ≡ 0 → outcome NoMessage m [] ≡ receive_queued depth i m
@@ -137,19 +137,19 @@ module _ (depth i : ℕ) (m : List ℕ) (s : ObjectState) (row : s ≡ object_st
 -- ---- send
 
 module _ (t : List ℕ) (c : Counts) (i v : ℕ) (area m n q : List ℕ) (found passed : Bool) (o : Object)
-    (e : found ≡ is_object t c sending i) (there : not found ≡ false) (same : o ≡ object t c i) (inside : n ≡ deliver_inside t c i v m)
+    (e : found ≡ is_object t c sending i) (there : found ≡ true) (same : o ≡ object t c i) (inside : n ≡ deliver_inside t c i v m)
     (judge : passed ≡ passes_filter o v (object_state n i)) (row : q ≡ with_object_state n i (after_filter passed o v (object_state n i))) where
-  pub send_dropped : not passed ≡ true → outcome (Done 0) q area ≡ send_in t c i v area m
+  pub send_dropped : passed ≡ false → outcome (Done 0) q area ≡ send_in t c i v area m
   unfolding send_in send_of
-  send_dropped failed = rw (is_true e there, ← same, ← inside, ← judge, ← row, not-true passed failed)
+  send_dropped failed = rw (is_true e there, ← same, ← inside, ← judge, ← row, failed)
 
-  pub send_passed : (k : List ℕ) (x : Outcome) → not passed ≡ false → k ≡ pack o v q → x ≡ request t o area k → x ≡ send_in t c i v area m
+  pub send_passed : (k : List ℕ) (x : Outcome) → passed ≡ true → k ≡ pack o v q → x ≡ request t o area k → x ≡ send_in t c i v area m
   unfolding send_in send_of
-  send_passed k x go packs does = rw (is_true e there, ← same, ← inside, ← judge, ← row, not-false passed go, ← packs) does
+  send_passed k x go packs does = rw (is_true e there, ← same, ← inside, ← judge, ← row, go, ← packs) does
 
 -- ---- a request that is wanted
 
-module _ (t : List ℕ) (o : Object) (found : Bool) (has : HasIpdu t o) (e : found ≡ wants t o) (there : not found ≡ false) where
+module _ (t : List ℕ) (o : Object) (found : Bool) (has : HasIpdu t o) (e : found ≡ wants t o) (there : found ≡ true) where
   wanted : eqb o.ipdu.0 absent ≡ false
   wanted = wants_some t o (is_true e there)
 
@@ -173,7 +173,7 @@ module _ (t : List ℕ) (o : Object) (found : Bool) (has : HasIpdu t o) (e : fou
 
 -- ---- an I-PDU that was found, of its direction
 
-module _ (t : List ℕ) (c : Counts) (direction k : ℕ) (found : Bool) (e : found ≡ is_ipdu t c direction k) (there : not found ≡ false) where
+module _ (t : List ℕ) (c : Counts) (direction k : ℕ) (found : Bool) (e : found ≡ is_ipdu t c direction k) (there : found ≡ true) where
   pub found_ipdu : k < c.ipdus
   found_ipdu = ipdu_there t c direction k (is_true e there)
 
@@ -189,7 +189,7 @@ module _ (t : List ℕ) (c : Counts) (direction k : ℕ) (found : Bool) (e : fou
 -- ---- confirm
 
 module _ (t : List ℕ) (c : Counts) (k : ℕ) (good : Bool) (m : List ℕ) (found : Bool) (s : IpduState)
-    (e : found ≡ is_ipdu t c sending k) (there : not found ≡ false) (row : s ≡ ipdu_state m k) where
+    (e : found ≡ is_ipdu t c sending k) (there : found ≡ true) (row : s ≡ ipdu_state m k) where
   pub not_requested : s.requested ≡ 0 → outcome NotRequested m [] ≡ confirm_in t c k good m
   unfolding confirm_in
   not_requested none = rw (is_true e there, ← row, eq-eqb _ _ none)
@@ -203,14 +203,14 @@ module _ (t : List ℕ) (c : Counts) (k : ℕ) (good : Bool) (m : List ℕ) (fou
 
 -- ---- indication
 
-module _ (t : List ℕ) (c : Counts) (k : ℕ) (good : Bool) (bytes m n : List ℕ) (found : Bool) (e : found ≡ is_ipdu t c receiving k) (there : not found ≡ false) where
-  pub indicates_bad : not good ≡ true → n ≡ mark_objects t c k mark_receive_error m → outcome (Done 0) n [] ≡ indication_in t c k good bytes m
+module _ (t : List ℕ) (c : Counts) (k : ℕ) (good : Bool) (bytes m n : List ℕ) (found : Bool) (e : found ≡ is_ipdu t c receiving k) (there : found ≡ true) where
+  pub indicates_bad : good ≡ false → n ≡ mark_objects t c k mark_receive_error m → outcome (Done 0) n [] ≡ indication_in t c k good bytes m
   unfolding indication_in
-  indicates_bad bad marks = rw (is_true e there, not-true good bad, marks)
+  indicates_bad bad marks = rw (is_true e there, bad, marks)
 
-  pub indicates_good : (a : Answer) → not good ≡ false → outcome a n [] ≡ indication_of true t c k bytes m → outcome a n [] ≡ indication_in t c k good bytes m
+  pub indicates_good : (a : Answer) → good ≡ true → outcome a n [] ≡ indication_of true t c k bytes m → outcome a n [] ≡ indication_in t c k good bytes m
   unfolding indication_in
-  indicates_good a fine does = rw (is_true e there, not-false good fine) does
+  indicates_good a fine does = rw (is_true e there, fine) does
 
 module _ (t : List ℕ) (c : Counts) (k : ℕ) (bytes m : List ℕ) (p : Ipdu) (same : p ≡ ipdu t k) where
   pub wrong_length : (length bytes ≡ p.length.0 → ⊥) → outcome WrongLength m [] ≡ indication_of true t c k bytes m

@@ -10,7 +10,7 @@ pub use answers::{number_of, value_of};
 pub use numbers::{is_ipdu, is_object};
 
 // What a call answers: done, with its result, or why not.
-#[derive(Drop)]
+#[derive(Clone, Copy)]
 pub enum Answer {
     Done(u32),
     WrongId,

@@ -160,22 +160,22 @@ pub holds_known : (t m : List ℕ) (ground : Ground) (c : Counts) → ground ≡
 holds_known t m ground c told holds = rw told at holds
 
 module _ (t : List ℕ) (c : Counts) (m : List ℕ) (fits : Bool) (checked : Checked t c m) where
-  pub known_short : not fits ≡ true → Admits t m fits (Refused WrongMemory)
+  pub known_short : fits ≡ false → Admits t m fits (Refused WrongMemory)
   unfolding admission
-  known_short short = admits_refused (rw (checked.accepted, not-true fits short, and_false (leb memory_size (length m))))
+  known_short short = admits_refused (rw (checked.accepted, short, and_false (leb memory_size (length m))))
 
-  known_front : not fits ≡ false → pick (eqb (number_at 1 0 m) 0) (Refused Stopped) (Admitted c) ≡ admission t m fits
+  known_front : fits ≡ true → pick (eqb (number_at 1 0 m) 0) (Refused Stopped) (Admitted c) ≡ admission t m fits
   unfolding admission
   known_front fit =
       rw (
         checked.accepted,
         le-leb memory_size (length m) checked.long,
-        not-false fits fit,
+        fit,
         ready_in_range t c (working_memory m) checked.ready,
         running_front m,
       )
 
-  module _ (byte : ℕ) (read : byte ≡ number_at 1 0 m) (fit : not fits ≡ false) where
+  module _ (byte : ℕ) (read : byte ≡ number_at 1 0 m) (fit : fits ≡ true) where
     pub known_stopped : byte ≡ 0 → Admits t m fits (Refused Stopped)
     known_stopped off = admits_refused (rw (eq-eqb (number_at 1 0 m) 0 (sym read ∙ off)) at (known_front fit))
 
@@ -189,7 +189,7 @@ module _ (t : List ℕ) (c : Counts) (m : List ℕ) (fits : Bool) (checked : Che
                 long = checked.long;
                 exact = working_exact m checked.long;
                 ready = checked.ready;
-                area = not-false fits fit;
+                area = fit;
               };
         }
 

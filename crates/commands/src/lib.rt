@@ -10,14 +10,14 @@ pub use performing::perform;
 use table::Counts;
 
 // Whether table and memory were found right.
-#[derive(Drop)]
+#[derive(Clone, Copy)]
 pub enum Ground {
     Known(Counts),
     Unknown,
 }
 
 // What a command came to: what is now known, and the place behind the line that it printed.
-#[derive(Drop)]
+#[derive(Clone, Copy)]
 pub struct Made {
     pub ground: Ground,
     pub end: usize,

@@ -7,14 +7,14 @@ mod decode;
 pub use decode::{decode_ipdu, decode_object, ipdu_length, is_signed};
 
 // Whether an I-PDU or an object is sent or received.
-#[derive(Drop)]
+#[derive(Clone, Copy)]
 pub enum Direction {
     Send,
     Receive,
 }
 
 // The transmission mode of a send I-PDU.
-#[derive(Drop)]
+#[derive(Clone, Copy)]
 pub enum Mode {
     Direct,
     Periodic,
@@ -22,14 +22,14 @@ pub enum Mode {
 }
 
 // The transfer property of a send object.
-#[derive(Drop)]
+#[derive(Clone, Copy)]
 pub enum Transfer {
     Triggered,
     Pending,
 }
 
 // An I-PDU. The deadline is D of a send I-PDU and R of a receive I-PDU, in ticks, as are all its times.
-#[derive(Drop)]
+#[derive(Clone, Copy)]
 pub struct Ipdu {
     pub direction: Direction,
     pub length: bits::ByteLength,
@@ -43,7 +43,7 @@ pub struct Ipdu {
 
 // A message object. An I-PDU or sending object of 255 is none. A signed one's values are two's complement. `at` is how far
 // along its order's walk the start bit stands; a depth of 0 is unqueued.
-#[derive(Drop)]
+#[derive(Clone, Copy)]
 pub struct Object {
     pub direction: Direction,
     pub ipdu: table::IpduNumber,

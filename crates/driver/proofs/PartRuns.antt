@@ -178,7 +178,7 @@ module _ (at n room : ℕ) (run : Run) {r : Bool} (answers : r ≡ (not run.prog
       let on = and_split (not run.progress.ended) (leb (run.written + longest_line) room) (sym answers ∙ both.1) in
       record {
         low = ltb-true at n both.0;
-        going = not-true run.progress.ended on.0;
+        going = on.0;
         room_left = leb-true (run.written + longest_line) room on.1;
       }
 

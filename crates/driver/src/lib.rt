@@ -19,7 +19,7 @@ pub use script::Progress;
 use script::Reader;
 
 // What a part came to: how many of its bytes were read, and how many bytes were put into the buffer.
-#[derive(Drop)]
+#[derive(Clone, Copy)]
 pub struct Part {
     pub progress: Progress,
     pub read: usize,
@@ -27,7 +27,7 @@ pub struct Part {
 }
 
 // A part as it is run: how much of `out` is written, and what is known of table and memory.
-#[derive(Drop)]
+#[derive(Clone, Copy)]
 pub struct Run {
     pub progress: Progress,
     pub ground: Ground,
@@ -35,7 +35,7 @@ pub struct Run {
 }
 
 // Where a line goes on: at a line feed, or at the end of the part.
-#[derive(Drop)]
+#[derive(Clone, Copy)]
 pub struct Reached {
     pub reader: Reader,
     pub at: usize,

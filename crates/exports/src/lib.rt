@@ -22,7 +22,7 @@ pub use sheets::{birnenschloss_sheet_begin, birnenschloss_sheet_drain};
 
 // A number of document 01 and what is returned with it.
 #[repr(C)]
-#[derive(Drop)]
+#[derive(Clone, Copy)]
 pub struct Answer {
     pub number: u32,
     pub value: u32,

@@ -1,22 +1,13 @@
 -- Laws of filters that callers cite.
 -- Assumes nothing.
-use mathlib.Core.Bool.{Bool, true, false, not, ◌&&◌, ◌||◌}
-use mathlib.Core.List.{List, [], ◌∷◌}
-use mathlib.Core.Logic.{⊎_elim}
-use mathlib.Core.Path.{◌≡◌, refl, sym, ap, ap₂, ◌∙◌}
-use Prim.Native.Nat.{ℕ, zero, suc, ◌+◌, ◌-◌, ◌%◌, ◌^◌, ◌≤◌, ◌<◌, zero-le}
-use native.Mathlib.Nat.{mod-lt, mod-eq_of_lt, mod_self, mod-add-mod}
-use native.Mathlib.Omega.{arith}
-use borrow.Author.Tests.{leb-true, ltb-true, ltb-false, lt-ltb, le-ltb, le-leb, lt-leb, ne_eqb, not-false}
-use denote.Enum.Declared.{tag_of}
-use types.Run.{OneOf, miss}
-use lib.Dec.{leb, ltb, eqb}
+use Rattle.std.proofs.Common.{Bool, true, false, not, ◌&&◌, ⊎_elim, ◌≡◌, refl, sym, ap, ap₂, ◌∙◌, ℕ, zero, suc, ◌+◌, ◌-◌, ◌%◌, ◌^◌, ◌≤◌, ◌<◌, zero-le, mod-lt, mod-eq_of_lt, arith, leb-true, ltb-true, ltb-false, lt-ltb, le-ltb, le-leb, ne_eqb, leb, ltb, eqb}
+use native.Mathlib.Nat.{mod_self, mod-add-mod}
+use borrow.Author.Tests.{lt-leb, not-false}
 use Rattle.memory.specs.Search.{pick}
 use Rattle.memory.specs.Integers.{at_most, less_than, rank}
 use Rattle.memory.proofs.IntegerLaws.{rank_at_most, rank_less}
 use Rattle.memory.proofs.Search.{any_false, below_suc}
 use Rattle.memory.proofs.Tests.{and_split, true_or_false, lt_or_le, eq_or_ne}
-use Rattle.filter.specs.contracts.Filter.{the_type}
 use Rattle.filter.specs.declared.Filter.{Filter}
 use Rattle.filter.specs.declared.Filter.TheVariants.{Always, Never, MaskedNewEqualsX, MaskedNewDiffersX, NewIsEqual, NewIsDifferent, MaskedNewEqualsMaskedOld}
 use Rattle.filter.specs.declared.Filter.TheVariants.{MaskedNewDiffersMaskedOld, NewIsWithin, NewIsOutside, NewIsGreater, NewIsLessOrEqual, NewIsLess}
@@ -58,11 +49,8 @@ pub right_count : (number c d : ℕ) → filter_right number c d ≡ true → gr
 unfolding filter_right
 right_count number c d e = constants_count (filter_of number c d) c d (and_split (leb number 14) _ e).1
 
--- the filters before the one with a period, by their places
-abbrev pub before : List ℕ
-before = 0 ∷ 1 ∷ 2 ∷ 3 ∷ 4 ∷ 5 ∷ 6 ∷ 7 ∷ 8 ∷ 9 ∷ 10 ∷ 11 ∷ 12 ∷ 13 ∷ []
-
-pub no_period : (f : Filter) → OneOf before (tag_of the_type f) → 0 ≡ greatest_count f
+-- a filter that is not the one with a period has none
+pub no_period : (f : Filter) → ((p o : ℕ) → f ≡ OneEveryN p o → ⊥) → 0 ≡ greatest_count f
 unfolding greatest_count
 no_period Always e = refl
 no_period Never e = refl
@@ -78,7 +66,7 @@ no_period NewIsGreater e = refl
 no_period NewIsLessOrEqual e = refl
 no_period NewIsLess e = refl
 no_period NewIsGreaterOrEqual e = refl
-no_period (OneEveryN period offset) e = absurd (miss before 14 tt e)
+no_period (OneEveryN period offset) e = absurd (e period offset refl)
 
 -- by the period p of the code, 1 with another filter
 module _ (f : Filter) (n p : ℕ) (period : p - 1 ≡ greatest_count f) where
@@ -100,7 +88,7 @@ some_in_range f n p d e some =
     (lt_or_le n p)
 
 -- with another filter none is
-pub none_in_range : (f : Filter) (n : ℕ) → OneOf before (tag_of the_type f) → (n ≡ 0 → ⊥) → false ≡ leb n (greatest_count f)
+pub none_in_range : (f : Filter) (n : ℕ) → ((p o : ℕ) → f ≡ OneEveryN p o → ⊥) → (n ≡ 0 → ⊥) → false ≡ leb n (greatest_count f)
 none_in_range f n e some = rw (← no_period f e) (sym (lt-leb n 0 (omega (arith, some))))
 
 -- 0 is in every range

@@ -6,7 +6,7 @@ ghost use Rattle.memory.specs.Integers.{at_most};
 ghost use Rattle.filter.specs.Filters.{passes, greatest_count, next_count, CountFits, filter_of, filter_right};
 
 // A filter with the constants that it needs.
-#[derive(Drop)]
+#[derive(Clone, Copy)]
 pub enum Filter {
     Always,
     Never,

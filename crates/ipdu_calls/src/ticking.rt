@@ -16,7 +16,7 @@ use config::{Direction, Ipdu};
 use table::{Counts, IpduNumber};
 
 // What one I-PDU gives in a tick: its bit where it was requested, and its bit where its time ran out.
-#[derive(Drop)]
+#[derive(Clone, Copy)]
 struct Turn {
     word: u32,
     due: u32,

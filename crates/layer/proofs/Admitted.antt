@@ -99,7 +99,7 @@ module _ (t : List ℕ) (c : Counts) (m : List ℕ) (fits : Bool) where
   memory_long a e does = rw (not-false (leb memory_size (length m) && fits) e) does
 
 pub memory_enough : (m : List ℕ) (fits : Bool) → not (leb memory_size (length m) && fits) ≡ false → memory_size ≤ length m
-memory_enough m fits e = leb-true _ _ (and_split (leb memory_size (length m)) fits (not-false _ e)).0
+memory_enough m fits e = leb-true _ _ (and_split (leb memory_size (length m)) fits (e)).0
 
 module _ (m : List ℕ) (long : memory_size ≤ length m) where
   pub working_length : length (working_memory m) ≡ memory_size

@@ -21,7 +21,7 @@ pub use state::{AREA_SIZE, MEMORY_SIZE};
 use table::{Counts, IpduNumber, ObjectNumber};
 
 // Whether a call goes on, with the counts of its table, or is refused before it looks at its own numbers.
-#[derive(Drop)]
+#[derive(Clone, Copy)]
 pub enum Admission {
     Admitted(Counts),
     Refused(Answer),
@@ -29,7 +29,7 @@ pub enum Admission {
 
 // A number of document 01 and what is returned with it.
 #[repr(C)]
-#[derive(Drop)]
+#[derive(Clone, Copy)]
 pub struct Reply {
     pub number: u32,
     pub value: u32,

@@ -54,11 +54,11 @@ pub true_not_false : {b : Bool} → b ≡ true → b ≡ false → ⊥
 true_not_false {b} e f = let z : ◌≡◌ {A = Bool} true false = cc in let y : ◌≡◌ {A = ℕ} 0 1 = cc in omega arith
 
 -- what a callee's test says where `if !test` was not taken, and where it was
-pub tested_true : {b p : Bool} → b ≡ p → not b ≡ false → p ≡ true
-tested_true {b} e f = sym e ∙ not-false b f
+pub tested_true : {b p : Bool} → b ≡ p → b ≡ true → p ≡ true
+tested_true {b} e f = sym e ∙ f
 
-pub tested_false : {b p : Bool} → b ≡ p → not b ≡ true → p ≡ false
-tested_false {b} e f = sym e ∙ not-true b f
+pub tested_false : {b p : Bool} → b ≡ p → b ≡ false → p ≡ false
+tested_false {b} e f = sym e ∙ f
 
 pub and_false : (a : Bool) → (a && false) ≡ false
 and_false true = refl
@@ -74,11 +74,11 @@ tabulate_at zero f k h = absurd (not-suc-le-zero h)
 tabulate_at (suc n) f zero h = refl
 tabulate_at (suc n) f (suc k) h = tabulate_at n (λ j. f (suc j)) k (le_of_suc-le-suc h)
 
-pub not_found : {A : Type 0} (test found : Bool) (x y : A) → found ≡ test → not found ≡ true → y ≡ pick test x y
-not_found test found x y e failed = rw (sym e ∙ not-true _ failed)
+pub not_found : {A : Type 0} (test found : Bool) (x y : A) → found ≡ test → found ≡ false → y ≡ pick test x y
+not_found test found x y e failed = rw (sym e ∙ failed)
 
-pub found_so : {A : Type 0} (test found : Bool) (x y z : A) → found ≡ test → not found ≡ false → z ≡ x → z ≡ pick test x y
-found_so test found x y z e passed same = rw (sym e ∙ not-false _ passed) same
+pub found_so : {A : Type 0} (test found : Bool) (x y z : A) → found ≡ test → found ≡ true → z ≡ x → z ≡ pick test x y
+found_so test found x y z e passed same = rw (sym e ∙ passed) same
 
 -- ---- bytes, by a computed test
 

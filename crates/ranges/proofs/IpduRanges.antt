@@ -38,10 +38,10 @@ module _ (p : Ipdu) (s : IpduState) where
         shuffled true true true true true true false true = refl
         shuffled true true true true true true false false = refl
 
-    pub request_out : {b : Bool} → b ≡ request_in_range p s → not b ≡ true → false ≡ ipdu_in_range p s
+    pub request_out : {b : Bool} → b ≡ request_in_range p s → b ≡ false → false ≡ ipdu_in_range p s
     request_out e out = rw (← parts, tested_false e out)
 
-    pub period_decides : {b d : Bool} → b ≡ request_in_range p s → not b ≡ false → d ≡ period_in_range p s → d ≡ ipdu_in_range p s
+    pub period_decides : {b d : Bool} → b ≡ request_in_range p s → b ≡ true → d ≡ period_in_range p s → d ≡ ipdu_in_range p s
     period_decides e done f = rw (← parts, tested_true e done) f
 
   module _ (receive : p.direction ≡ Receive) where
@@ -49,10 +49,10 @@ module _ (p : Ipdu) (s : IpduState) where
     unfolding ipdu_in_range nothing_sent timer_in_range
     parts_received = rw receive
 
-    pub something_sent : {b : Bool} → b ≡ nothing_sent s → not b ≡ true → false ≡ ipdu_in_range p s
+    pub something_sent : {b : Bool} → b ≡ nothing_sent s → b ≡ false → false ≡ ipdu_in_range p s
     something_sent e out = rw (← parts_received, tested_false e out)
 
-    pub timer_decides : {b d : Bool} → b ≡ nothing_sent s → not b ≡ false → d ≡ timer_in_range p s → d ≡ ipdu_in_range p s
+    pub timer_decides : {b d : Bool} → b ≡ nothing_sent s → b ≡ true → d ≡ timer_in_range p s → d ≡ ipdu_in_range p s
     timer_decides e done f = rw (← parts_received, tested_true e done) f
 
 -- ---- of a send I-PDU

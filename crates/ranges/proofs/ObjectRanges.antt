@@ -27,15 +27,15 @@ module _ (r : ObjectRecord) (s : ObjectState) {d : ℕ} (depth : d ≡ r.depth) 
     own : leb s.head (r.depth - 1) ≡ b
     own = rw (← head, ← depth) (sym test)
 
-    pub head_out : not b ≡ true → false ≡ used_in_range r s
+    pub head_out : b ≡ false → false ≡ used_in_range r s
     unfolding used_in_range
-    head_out out = rw (own, not-true b out, and_false (leb s.count r.depth))
+    head_out out = rw (own, out, and_false (leb s.count r.depth))
 
-    pub occurrence_decides : {o f x y : ℕ} {v : Bool} → n ≤ d → not b ≡ false → o ≡ s.occurrence → f ≡ r.filter → x ≡ r.first → y ≡ r.second
+    pub occurrence_decides : {o f x y : ℕ} {v : Bool} → n ≤ d → b ≡ true → o ≡ s.occurrence → f ≡ r.filter → x ≡ r.first → y ≡ r.second
         → v ≡ leb o (greatest_count (filter_of f x y)) → v ≡ used_in_range r s
     unfolding used_in_range
     occurrence_decides low in_place occurrence filter first second e =
-        rw (own, not-false b in_place, le-leb s.count r.depth (omega arith)) (rw (occurrence, filter, first, second) at e)
+        rw (own, in_place, le-leb s.count r.depth (omega arith)) (rw (occurrence, filter, first, second) at e)
 
 -- ---- where the queues of the objects passed end, in units
 

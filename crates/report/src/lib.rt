@@ -19,7 +19,7 @@ use table::Counts;
 pub const LONGEST_LINE: usize = 770;
 
 // What is printed behind the status of a call: a value that is signed or not, or the I-PDUs of a word.
-#[derive(Drop)]
+#[derive(Clone, Copy)]
 pub enum Shown {
     StatusAlone,
     Value(bool, u32),

@@ -8,7 +8,7 @@ pub use lines::{command_of, feed, frame_of, fresh, spell};
 use table::{IpduNumber, ObjectNumber};
 
 // What a line asks for. The bytes of an indication stand beside it.
-#[derive(Drop)]
+#[derive(Clone, Copy)]
 pub enum Command {
     Start,
     Stop,
@@ -22,7 +22,7 @@ pub enum Command {
 }
 
 // What is asked of one message object.
-#[derive(Drop)]
+#[derive(Clone, Copy)]
 pub enum Ask {
     Receive,
     Status,
@@ -31,14 +31,14 @@ pub enum Ask {
 }
 
 // A line that ended: its command, or that it can't be read.
-#[derive(Drop)]
+#[derive(Clone, Copy)]
 pub enum Reading {
     Readable(Command),
     Unreadable,
 }
 
 // A line so far: the field that it is in, with the fields before.
-#[derive(Drop)]
+#[derive(Clone, Copy)]
 pub enum Reader {
     Naming(Name),
     First(Name, Numeral),
@@ -48,7 +48,7 @@ pub enum Reader {
 }
 
 // A name so far: how many letters, the first eight as a number in base 256, and the next eight. 17 stands for too many.
-#[derive(Drop)]
+#[derive(Clone, Copy)]
 pub struct Name {
     pub letters: u32,
     pub head: u64,
@@ -56,7 +56,7 @@ pub struct Name {
 }
 
 // A decimal field so far; `Negative` is what stands behind a minus.
-#[derive(Drop)]
+#[derive(Clone, Copy)]
 pub enum Numeral {
     Nothing,
     Number(u32),
@@ -67,21 +67,21 @@ pub enum Numeral {
 
 // A hex field so far: the value of its digits, of which the last sixteen count, and how many digits there were; from 18 on the
 // count goes on between 17 and 18.
-#[derive(Drop)]
+#[derive(Clone, Copy)]
 pub enum Hex {
     Digits(u64, u32),
     NotHex,
 }
 
 // The bytes of an indication as a number, the first the most significant. A length of 9 stands for any longer one.
-#[derive(Drop)]
+#[derive(Clone, Copy)]
 pub struct Frame {
     pub value: u64,
     pub length: usize,
 }
 
 // What is kept between two parts of a script: the line that is being read, its number, and whether a line could not be read.
-#[derive(Drop)]
+#[derive(Clone, Copy)]
 pub struct Progress {
     pub reader: Reader,
     pub line: u64,

@@ -197,8 +197,8 @@ in_range_ready t c m right bt long bm e =
       long = long;
       bytes = bm;
       running = all.0;
-      ipdus = λ k h. not-false _ (any_false c.ipdus (ipdu_out t m) (not-true _ all.1.0) k h);
-      objects = λ i h. not-false _ (any_false c.objects (object_out t c m) (not-true _ all.1.1) i h);
+      ipdus = λ k h. not-false _ (any_false c.ipdus (ipdu_out t m) (all.1.0) k h);
+      objects = λ i h. not-false _ (any_false c.objects (object_out t c m) (all.1.1) i h);
     }
 
 pub ready_in_range : (t : List ℕ) (c : Counts) (m : List ℕ) → Ready t c m → in_range t c m ≡ true

@@ -24,7 +24,7 @@ pub const QUEUES: usize = 2832;
 
 // The stored numbers of an I-PDU: whether a request is open, is wanted, and whether the period runs; ticks of the minimum
 // delay, the deadline, the period's countdown and the receive timer.
-#[derive(Drop)]
+#[derive(Clone, Copy)]
 pub struct IpduState {
     pub requested: u32,
     pub wanted: u32,
@@ -37,7 +37,7 @@ pub struct IpduState {
 
 // The stored numbers of a message object: its value, the filter's old value and occurrence, its marks, and of its queue
 // whether a value was lost, the place of the oldest value, how many there are, and where the queue begins.
-#[derive(Drop)]
+#[derive(Clone, Copy)]
 pub struct ObjectState {
     pub value: u32,
     pub old: u32,

@@ -50,7 +50,7 @@ module _ (t : List ℕ) where
         header = h;
         counted = e;
         shape = rw e (header_shape t h);
-        ipdus = λ k b. not-false _ (ipdus k b);
+        ipdus = λ k b. (ipdus k b);
         objects = λ i b. not-false _ (or_split (wrong_alone t c i) (past_depth t c i) (objects i b)).0;
         depth = low c.objects (omega arith);
       }

@@ -55,11 +55,11 @@ received r e = let both = and_split (eqb r.transfer 0) (leb r.depth 16) e in (eq
 -- two tests that are made as `(y != a) & (y != b)`
 neither : (a b : Bool) → (not a && not b) ≡ true → (a || b) ≡ false
 neither true b e = let z : false ≡ true = e in absurd (true_not_false z refl)
-neither false b e = not-true b e
+neither false b e = e
 
 either : (a b : Bool) → (not a && not b) ≡ false → (a || b) ≡ true
 either true b e = refl
-either false b e = not-false b e
+either false b e = e
 
 whole_limit : (n : ℕ) → (eqb n 0 || eqb n 2) ≡ true → n ≤ 3
 whole_limit n e = ⊎_elim (λ h. omega (arith, eqb-true n 0 h)) (λ h. omega (arith, eqb-true n 2 h)) (or_cases (eqb n 0) (eqb n 2) e)
@@ -101,7 +101,7 @@ module _ (r : ObjectRecord) (x : References) where
   pub tail_some : {y : ℕ} → y ≡ r.zero_24 → (y ≡ 0 → ⊥) → false ≡ object_right r x
   tail_some e some = refused (λ f. some (e ∙ (bytes f).tail))
 
-  pub filter_wrong : {b : Bool} → b ≡ filter_field r → not b ≡ true → false ≡ object_right r x
+  pub filter_wrong : {b : Bool} → b ≡ filter_field r → b ≡ false → false ≡ object_right r x
   unfolding filter_field
   filter_wrong e wrong =
       refused (λ f.
@@ -124,7 +124,7 @@ module _ (r : ObjectRecord) (x : References) where
       (kind_facts r x f)
 
 -- what the two functions behind ask for
-pub filtered : (r : ObjectRecord) {b : Bool} {y : ℕ} → y ≡ r.zero_24 → y ≡ 0 → b ≡ filter_field r → not b ≡ false → Filtered r
+pub filtered : (r : ObjectRecord) {b : Bool} {y : ℕ} → y ≡ r.zero_24 → y ≡ 0 → b ≡ filter_field r → b ≡ true → Filtered r
 filtered r tail zero e done = record { tail = sym tail ∙ zero; field = tested_true e done }
 
 -- ---- in I-PDU k
@@ -173,7 +173,7 @@ module _ (t : List ℕ) (c : Counts) (r : ObjectRecord) (shape : Shape t c) (ipd
       (λ (s : Received r). some (e ∙ eqb-true _ _ (or_right (eqb r.ipdu absent) (eqb r.sender absent) here s.one)))
       (kind_facts r (references t c r) f))
 
-  pub no_room : {b : Bool} {y : ℕ} → y ≡ (ipdu_record t k).length → b ≡ place_field r y → not b ≡ true → false ≡ object_right r (references t c r)
+  pub no_room : {b : Bool} {y : ℕ} → y ≡ (ipdu_record t k).length → b ≡ place_field r y → b ≡ false → false ≡ object_right r (references t c r)
   unfolding place_field
   no_room {b} {y} length e wrong =
       refused r (references t c r) (λ f.
@@ -184,7 +184,7 @@ module _ (t : List ℕ) (c : Counts) (r : ObjectRecord) (shape : Shape t c) (ipd
 
   module _ (f : Filtered r) {d z : ℕ} (direction : d ≡ (ipdu_record t k).direction) (kind : z ≡ r.kind) (same : d ≡ z)
       {s : ℕ} (sender : s ≡ r.sender) (none : s ≡ absent)
-      {b : Bool} {y : ℕ} (length : y ≡ (ipdu_record t k).length) (place : b ≡ place_field r y) (placed : not b ≡ false) where
+      {b : Bool} {y : ℕ} (length : y ≡ (ipdu_record t k).length) (place : b ≡ place_field r y) (placed : b ≡ true) where
     placing : PlaceFacts r y
     placing = places r y (tested_true place placed)
 
@@ -255,7 +255,7 @@ module _ (t : List ℕ) (c : Counts) (r : ObjectRecord) (high : c.ipdus ≤ r.ip
         refused r (references t c r) (λ f.
         ⊎_elim (λ (s : Sent r). not-sent (kind ∙ s.kind)) (λ (s : Received r). not-received (kind ∙ s.kind)) (kind_facts r (references t c r) f))
 
-    pub transfer_wrong : {u : Bool} → u ≡ transfer_and_depth r k → not u ≡ true → false ≡ object_right r (references t c r)
+    pub transfer_wrong : {u : Bool} → u ≡ transfer_and_depth r k → u ≡ false → false ≡ object_right r (references t c r)
     transfer_wrong e wrong = refused r (references t c r) (λ f. true_not_false (transfer_as_kind r (references t c r) (sym kind) f) (tested_false e wrong))
 
     module _ (f : Filtered r) {i : ℕ} (ipdu : i ≡ r.ipdu) (none : i ≡ absent) {b : ℕ} (start : b ≡ r.start) (zero : b ≡ 0)
@@ -281,7 +281,7 @@ module _ (t : List ℕ) (c : Counts) (r : ObjectRecord) (high : c.ipdus ≤ r.ip
           rw wrong (refused r (references t c r) (λ g. true_not_false (transfer_as_kind r (references t c r) (sym kind) g) (sym e ∙ wrong))))
           (true_or_false u)
 
-      pub sender_decides : {u v : Bool} → (k ≡ sending → ⊥) → k ≡ receiving → u ≡ transfer_and_depth r k → not u ≡ false
+      pub sender_decides : {u v : Bool} → (k ≡ sending → ⊥) → k ≡ receiving → u ≡ transfer_and_depth r k → u ≡ true
           → v ≡ (eqb s absent || eqb (pick (ltb s c.objects) (object_record t c.ipdus s).kind 0) sending)
           → v ≡ object_right r (references t c r)
       unfolding references

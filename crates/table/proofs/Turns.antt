@@ -17,10 +17,10 @@ module _ (t : List ℕ) (k : ℕ) {b : Bool} (test : b ≡ ipdu_right (ipdu_reco
   unfolding ipdu_record
   here = ap not (sym test)
 
-  pub first_wrong : {n : ℕ} → k < n → not b ≡ true → k ≡ least n (wrong_ipdu t)
+  pub first_wrong : {n : ℕ} → k < n → b ≡ false → k ≡ least n (wrong_ipdu t)
   first_wrong {n} h e = sym (least_at n (wrong_ipdu t) k h (any_false k (wrong_ipdu t) none) (here ∙ e))
 
-  pub none_wrong_upto : not b ≡ false → any_below (k + 1) (wrong_ipdu t) ≡ false
+  pub none_wrong_upto : b ≡ true → any_below (k + 1) (wrong_ipdu t) ≡ false
   none_wrong_upto e = any_more (wrong_ipdu t) k none (here ∙ e)
 
 pub none_wrong : (t : List ℕ) {n k : ℕ} → k ≤ n → n ≤ k → any_below k (wrong_ipdu t) ≡ false → k ≡ least n (wrong_ipdu t)

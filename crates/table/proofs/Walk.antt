@@ -43,7 +43,7 @@ module _ (t : List ℕ) (c : Counts) {depth i : ℕ} (p : Passed t c depth i) wh
     unfolding object_record
     alone = ap not (sym test)
 
-    pub ends_alone : not right ≡ true → i ≡ least c.objects (wrong_object t c)
+    pub ends_alone : right ≡ false → i ≡ least c.objects (wrong_object t c)
     ends_alone wrong = named (rw (alone, wrong))
 
     module _ {d : ℕ} (here : d ≡ (object_record_at (object_base c.ipdus + 32 * i) t).depth) where
@@ -57,11 +57,11 @@ module _ (t : List ℕ) (c : Counts) {depth i : ℕ} (p : Passed t c depth i) wh
           let over : most_queued < depth + d = omega (arith, leb-true most_queued limit enough, past) in
           named (or_true (wrong_alone t c i) (past_depth t c i) (lt-ltb _ _ (rw sum at over)))
 
-      module _ (left : not right ≡ false) where
+      module _ (left : right ≡ true) where
         pub depth_fits : depth + d < 2 ^ 32
         depth_fits =
             let r = object_record_at (object_base c.ipdus + 32 * i) t in
-            omega (arith, (byte_facts r (object_facts r (references t c r) (sym test ∙ not-false right left)).bytes).depths, p.low)
+            omega (arith, (byte_facts r (object_facts r (references t c r) (sym test ∙ left)).bytes).depths, p.low)
 
         pub walk_goes_on : depth + d ≤ most_queued → Passed t c (depth + d) (i + 1)
         walk_goes_on low =

@@ -34,21 +34,21 @@ pub const OBJECT_SIZE: usize = 32;
 pub const LARGEST: usize = 4624;
 
 // The number of a message object, and of an I-PDU: counted separately.
-#[derive(Drop)]
+#[derive(Clone, Copy)]
 pub struct ObjectNumber(pub u32);
 
-#[derive(Drop)]
+#[derive(Clone, Copy)]
 pub struct IpduNumber(pub u32);
 
 // How many I-PDUs and objects a table has, from its header.
-#[derive(Drop)]
+#[derive(Clone, Copy)]
 pub struct Counts {
     pub ipdus: u32,
     pub objects: u32,
 }
 
 // The bytes of an I-PDU record, in their order. `zero_3` and `zero_14` are the bytes that have to be zero.
-#[derive(Drop)]
+#[derive(Clone, Copy)]
 pub struct IpduRecord {
     pub direction: u32,
     pub length: u32,
@@ -63,7 +63,7 @@ pub struct IpduRecord {
 }
 
 // The bytes of an object record, in their order.
-#[derive(Drop)]
+#[derive(Clone, Copy)]
 pub struct ObjectRecord {
     pub kind: u32,
     pub ipdu: u32,
@@ -84,7 +84,7 @@ pub struct ObjectRecord {
 
 // What an object record refers to: the direction and length of its I-PDU and the kind of its sending object, 0 where there is
 // none. For the rules' definition alone; the code looks where the record refers to.
-#[derive(Drop)]
+#[derive(Clone, Copy)]
 pub struct References {
     pub direction: u32,
     pub length: u32,
@@ -92,7 +92,7 @@ pub struct References {
 }
 
 // What the check answers: the counts of a right table, or its first wrong record.
-#[derive(Drop)]
+#[derive(Clone, Copy)]
 pub enum Verdict {
     Accepted(Counts),
     WrongHeader,

@@ -18,12 +18,12 @@ use Rattle.timing.specs.Periods.{has_period, period_set, period_turn}
 use Rattle.timing.specs.Inner.{NextPeriod}
 
 module _ (on : Bool) (t : List ℕ) (k : ℕ) (m : List ℕ) (p : Ipdu) (found : Bool) (same : p ≡ ipdu t k) (e : found ≡ has_period p.mode) where
-  pub no_period : not found ≡ true → m ≡ period_turn on t k m
-  no_period failed = rw (← same, sym e ∙ not-true _ failed)
+  pub no_period : found ≡ false → m ≡ period_turn on t k m
+  no_period failed = rw (← same, sym e ∙ failed)
 
-  pub period_set_lem : (n : List ℕ) (s next : IpduState) → not found ≡ false → s ≡ ipdu_state m k → next ≡ period_set on p s → n ≡ with_ipdu_state m k next
+  pub period_set_lem : (n : List ℕ) (s next : IpduState) → found ≡ true → s ≡ ipdu_state m k → next ≡ period_set on p s → n ≡ with_ipdu_state m k next
       → n ≡ period_turn on t k m
-  period_set_lem n s next passed row sets stores = rw (← same, sym e ∙ not-false _ passed, stores, sets, row)
+  period_set_lem n s next passed row sets stores = rw (← same, sym e ∙ passed, stores, sets, row)
 
 -- ---- the search: none passed, one more, the end; and what a turn of those passed leaves
 

@@ -13,9 +13,9 @@ admit_front_spec =
     tie.close
     (tie.spec
     (λ c κs. search rules)
-    (λ c. rw (sym c.before.in_range_lem.ensures ∙ not-true _ c.if1.true))
+    (λ c. rw (sym c.before.in_range_lem.ensures ∙ c.if1.true))
     (λ c κs. search rules)
     (λ c.
-    rw (sym c.before.before.before.in_range_lem.ensures ∙ not-false _ c.before.before.if1.false, eq-eqb _ 0 (sym c.before.read8.ensures.0 ∙ c.if2.true)))
+    rw (sym c.before.before.before.in_range_lem.ensures ∙ c.before.before.if1.false, eq-eqb _ 0 (sym c.before.read8.ensures.0 ∙ c.if2.true)))
     (λ c.
-    rw (sym c.before.before.before.in_range_lem.ensures ∙ not-false _ c.before.before.if1.false, ne_eqb _ 0 (λ e. c.if2.false (c.before.read8.ensures.0 ∙ e)))))
+    rw (sym c.before.before.before.in_range_lem.ensures ∙ c.before.before.if1.false, ne_eqb _ 0 (λ e. c.if2.false (c.before.read8.ensures.0 ∙ e)))))

@@ -12,5 +12,5 @@ after_filter_spec =
     tie.close
     (tie.spec
     (λ c κs. search rules)
-    (λ c. rw (not-true c.before.before.args.passed c.if1.true) cc)
-    (λ c. rw (not-false c.before.before.args.passed c.if1.false) cc))
+    (λ c. rw (c.if1.true) cc)
+    (λ c. rw (c.if1.false) cc))

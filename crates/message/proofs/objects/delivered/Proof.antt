@@ -12,17 +12,17 @@ delivered_spec =
     tie.close
     (tie.spec
     (λ c κs. search rules)
-    (λ c. rw (← c.before.after-filter.ensures, not-true c.before.before.args.passed c.if1.true))
+    (λ c. rw (← c.before.after-filter.ensures, c.if1.true))
     (λ c.
     let at_passed = c.before.before.before in
-    rw (← at_passed.before.after-filter.ensures, not-false at_passed.before.before.args.passed at_passed.if1.false, eq-eqb _ _ c.before.if2.true))
+    rw (← at_passed.before.after-filter.ensures, at_passed.if1.false, eq-eqb _ _ c.before.if2.true))
     (λ c. search rules)
     (λ c.
     let at_queued = c.before.before.before.before.before in
     let at_passed = at_queued.before.before in
     rw (
       ← at_passed.before.after-filter.ensures,
-      not-false at_passed.before.before.args.passed at_passed.if1.false,
+      at_passed.if1.false,
       ne_eqb _ _ at_queued.if2.false,
       lt-ltb _ _ c.before.before.if3.true,
     ))
@@ -31,7 +31,7 @@ delivered_spec =
     let at_passed = at_queued.before.before in
     rw (
       ← at_passed.before.after-filter.ensures,
-      not-false at_passed.before.before.args.passed at_passed.if1.false,
+      at_passed.if1.false,
       ne_eqb _ _ at_queued.if2.false,
       le-ltb _ _ c.if3.false,
     )))

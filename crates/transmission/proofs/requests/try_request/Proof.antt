@@ -18,7 +18,7 @@ try_request_spec =
     (λ c. search rules)
     (λ c.
     let at_asked = c.before.before.before.before in
-    let stays = sym at_asked.before.is-due.ensures ∙ not-true _ at_asked.if1.true in
+    let stays = sym at_asked.before.is-due.ensures ∙ at_asked.if1.true in
     (rw stays, (rw (stays, c.before.before.set-ipdu-state.ensures), rw stays)))
     (λ c κs. search rules)
     (λ c κs. search rules)
@@ -31,7 +31,7 @@ try_request_spec =
     let at_stored = c.before.before.before in
     let at_handed = at_stored.before.before.before.before.before in
     let at_asked = at_handed.before.before.before in
-    let goes = sym at_asked.before.is-due.ensures ∙ not-false _ at_asked.if1.false in (
+    let goes = sym at_asked.before.is-due.ensures ∙ at_asked.if1.false in (
       rw (goes, c.power-of-two.ensures),
       (rw (goes, at_stored.set-ipdu-state2.ensures, at_stored.before.request-made.ensures), rw (goes, at_handed.copy-to-area.ensures)),
     )))
