@@ -1,6 +1,6 @@
 -- `bits::unpack`: the frame stands at the front of a slot, where its bits are the slot's (`unpacks`).
 -- Assumes nothing.
-use Rattle.std.proofs.Common.{◌≤◌, length, rules, arith, false, ap}
+use Rattle.std.proofs.Common.{◌≤◌, length, rules, arith, false, ap, List, ℕ}
 use Rattle.bits.proofs.Copies.{starts_in_slot, frame_short, lies_in_slot, front_long, slot_long, unpacks}
 use Rattle.bits.proofs.unpack.Goals as goal
 
