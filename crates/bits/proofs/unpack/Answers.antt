@@ -1,7 +1,7 @@
 -- `bits::unpack`: the frame stands at the front of a slot, where its bits are the slot's (`unpacks`).
 -- Assumes nothing.
-use Rattle.std.proofs.Common.{◌≤◌, length, rules, arith, false, ap, List, ℕ}
-use Rattle.bits.proofs.Copies.{starts_in_slot, frame_short, lies_in_slot, front_long, slot_long, unpacks}
+use Rattle.std.proofs.Common.{◌≤◌, length, rules, arith, false, ap, List, ℕ, ◌++◌, drop}
+use Rattle.bits.proofs.Copies.{starts_in_slot, frame_short, lies_in_slot, front_long, slot_long, unpacks, cleared}
 use Rattle.bits.proofs.unpack.Goals as goal
 
 pub position-at-requires : goal.position-at-requires
