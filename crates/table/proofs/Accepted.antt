@@ -1,14 +1,8 @@
 -- The check accepts a table exactly where it has no wrong record (`accepted_right`, `right_accepted`), and what such a table
 -- gives to its users: every I-PDU number, sending object and bit place in range, every filter usable.
 -- Assumes nothing.
-use mathlib.Core.Bool.{true, false, not, ◌&&◌, ◌||◌}
-use mathlib.Core.List.{List}
-use mathlib.Core.Logic.{⊎_elim}
-use mathlib.Core.Path.{◌≡◌, refl, ap}
-use Prim.Native.Nat.{ℕ, zero, suc, ◌%◌, ◌≤◌, ◌<◌, zero-le}
-use native.Mathlib.Omega.{arith}
-use borrow.Author.Tests.{ltb-true, ltb-false, eqb-true, eq-eqb, le-ltb, not-false}
-use lib.Dec.{ltb, eqb}
+use Rattle.std.proofs.Common.{true, false, not, ◌&&◌, ◌||◌, List, ⊎_elim, ◌≡◌, refl, ap, ℕ, zero, suc, ◌%◌, ◌≤◌, ◌<◌, zero-le, arith, ltb-true, ltb-false, eqb-true, eq-eqb, le-ltb, ltb, eqb}
+use borrow.Author.Tests.{not-false}
 use Rattle.memory.specs.Search.{least}
 use Rattle.memory.proofs.Search.{least_none, least_before, sum_more}
 use Rattle.memory.proofs.Tests.{and_split, or_split, or_cases, true_or_false}
@@ -50,7 +44,7 @@ module _ (t : List ℕ) where
         header = h;
         counted = e;
         shape = rw e (header_shape t h);
-        ipdus = λ k b. (ipdus k b);
+        ipdus = λ k b. not-false _ (ipdus k b);
         objects = λ i b. not-false _ (or_split (wrong_alone t c i) (past_depth t c i) (objects i b)).0;
         depth = low c.objects (omega arith);
       }

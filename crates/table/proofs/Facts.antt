@@ -1,14 +1,6 @@
 -- What a right record says, field by field.
 -- Assumes nothing.
-use mathlib.Core.Bool.{Bool, true, false, not, ◌&&◌, ◌||◌}
-use mathlib.Core.Logic.{◌⊎◌, inl, inr, ⊎_elim}
-use mathlib.Core.List.{List, [], ◌∷◌}
-use mathlib.Core.Path.{◌≡◌, refl}
-use Prim.Native.Nat.{ℕ, ◌≤◌, ◌<◌}
-use native.Mathlib.Omega.{arith}
-use borrow.Author.Tests.{leb-true, ltb-true, eqb-true}
-use lib.Dec.{leb, ltb, eqb}
-use lib.ListN.{length}
+use Rattle.std.proofs.Common.{Bool, true, false, not, ◌&&◌, ◌||◌, ◌⊎◌, inl, inr, ⊎_elim, List, [], ◌∷◌, ◌≡◌, refl, ℕ, ◌≤◌, ◌<◌, arith, leb-true, ltb-true, eqb-true, leb, ltb, eqb, length}
 use Rattle.memory.specs.Search.{pick}
 use Rattle.memory.proofs.Tests.{and_split, each_true, or_cases, true_not_false, lt_or_le}
 use Rattle.bits.specs.Bits.{room}

@@ -1,12 +1,7 @@
 -- The tests of an object record's filter, place, transfer property and depth, in the order of the code: what each says of the fields. x, y and z are numbers that were read.
 -- Assumes nothing.
-use mathlib.Core.Bool.{Bool, true, false, ◌&&◌, ◌||◌}
-use mathlib.Core.Logic.{⊎_elim}
-use mathlib.Core.Path.{◌≡◌, refl, sym, ◌∙◌}
-use Prim.Native.Nat.{ℕ, ◌+◌, ◌-◌, ◌*◌, ◌/◌, ◌%◌, ◌^◌, ◌≤◌, ◌<◌}
-use native.Mathlib.Omega.{arith}
-use borrow.Author.Tests.{eq-eqb, ne_eqb, le-leb, lt-leb, lt-ltb, le-ltb}
-use lib.Dec.{leb, ltb, eqb}
+use Rattle.std.proofs.Common.{Bool, true, false, ◌&&◌, ◌||◌, ⊎_elim, ◌≡◌, refl, sym, ◌∙◌, ℕ, ◌+◌, ◌-◌, ◌*◌, ◌/◌, ◌%◌, ◌^◌, ◌≤◌, ◌<◌, arith, eq-eqb, ne_eqb, le-leb, lt-ltb, le-ltb, leb, ltb, eqb}
+use borrow.Author.Tests.{lt-leb}
 use Rattle.memory.specs.Search.{pick}
 use Rattle.memory.proofs.Tests.{and_false, lt_or_le, eq_or_ne}
 use Rattle.bits.specs.declared.Order.TheVariants.{Big}

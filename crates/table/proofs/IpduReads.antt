@@ -1,9 +1,6 @@
 -- Numbers of an I-PDU record that are read together, as the numbers of its fields.
 -- Assumes nothing.
-use mathlib.Core.List.{List}
-use mathlib.Core.Path.{◌≡◌}
-use Prim.Native.Nat.{ℕ, ◌+◌, ◌*◌}
-use native.Mathlib.Omega.{arith}
+use Rattle.std.proofs.Common.{List, ◌≡◌, ℕ, ◌+◌, ◌*◌, arith, not}
 use Rattle.memory.specs.Bytes.{number_at}
 use Rattle.memory.proofs.Joined.{number_split}
 use Rattle.table.specs.Records.{ipdu_base, ipdu_record_at, ipdu_record}

@@ -1,12 +1,6 @@
 -- The tests of an I-PDU record, in the order of the code: what each says of `ipdu_right`. x, y and z are numbers that were read.
 -- Assumes nothing.
-use mathlib.Core.Bool.{true, false, not, ◌&&◌, ◌||◌}
-use mathlib.Core.Logic.{⊎_elim}
-use mathlib.Core.Path.{◌≡◌, ◌∙◌}
-use Prim.Native.Nat.{ℕ, ◌+◌, ◌*◌, ◌≤◌, ◌<◌}
-use native.Mathlib.Omega.{arith}
-use borrow.Author.Tests.{eqb-true, leb-true, eq-eqb, ne_eqb, le-leb}
-use lib.Dec.{leb, eqb}
+use Rattle.std.proofs.Common.{true, false, not, ◌&&◌, ◌||◌, ⊎_elim, ◌≡◌, ◌∙◌, ℕ, ◌+◌, ◌*◌, ◌≤◌, ◌<◌, arith, eqb-true, leb-true, eq-eqb, ne_eqb, le-leb, leb, eqb}
 use Rattle.memory.proofs.Tests.{and_split, or_cases, eq_or_ne, never_true}
 use Rattle.table.specs.declared.IpduRecord.{IpduRecord}
 use Rattle.table.specs.Records.{sending, receiving}

@@ -1,13 +1,7 @@
 -- The tests of an object record, in the order of the code: what each says of `object_right`. x, y and z are numbers that were read.
 -- Assumes nothing.
-use mathlib.Core.Bool.{Bool, true, false, not, ◌&&◌, ◌||◌}
-use mathlib.Core.List.{List, [], ◌∷◌}
-use mathlib.Core.Logic.{◌⊎◌, inl, inr, ⊎_elim}
-use mathlib.Core.Path.{◌≡◌, refl, sym, ◌∙◌}
-use Prim.Native.Nat.{ℕ, ◌≤◌, ◌<◌}
-use native.Mathlib.Omega.{arith}
-use borrow.Author.Tests.{eqb-true, leb-true, not-true, not-false, eq-eqb, ne_eqb, le-leb, lt-ltb, le-ltb}
-use lib.Dec.{leb, ltb, eqb}
+use borrow.Author.Tests.{not-true, not-false}
+use Rattle.std.proofs.Common.{Bool, true, false, not, ◌&&◌, ◌||◌, List, [], ◌∷◌, ◌⊎◌, inl, inr, ⊎_elim, ◌≡◌, refl, sym, ◌∙◌, ℕ, ◌≤◌, ◌<◌, arith, eqb-true, leb-true, eq-eqb, ne_eqb, le-leb, lt-ltb, le-ltb, leb, ltb, eqb, ap}
 use Rattle.memory.specs.Search.{pick}
 use Rattle.memory.proofs.Tests.{and_split, each_true, or_cases, true_or_false, true_not_false, tested_true, tested_false, never_true}
 use Rattle.bits.specs.Bits.{room}
@@ -55,11 +49,11 @@ received r e = let both = and_split (eqb r.transfer 0) (leb r.depth 16) e in (eq
 -- two tests that are made as `(y != a) & (y != b)`
 neither : (a b : Bool) → (not a && not b) ≡ true → (a || b) ≡ false
 neither true b e = let z : false ≡ true = e in absurd (true_not_false z refl)
-neither false b e = e
+neither false b e = not-true b e
 
 either : (a b : Bool) → (not a && not b) ≡ false → (a || b) ≡ true
 either true b e = refl
-either false b e = e
+either false b e = not-false b e
 
 whole_limit : (n : ℕ) → (eqb n 0 || eqb n 2) ≡ true → n ≤ 3
 whole_limit n e = ⊎_elim (λ h. omega (arith, eqb-true n 0 h)) (λ h. omega (arith, eqb-true n 2 h)) (or_cases (eqb n 0) (eqb n 2) e)

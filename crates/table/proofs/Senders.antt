@@ -1,10 +1,6 @@
 -- In a right table a send object has no sending object, and an object that has one is received.
 -- Assumes nothing.
-use mathlib.Core.List.{List}
-use mathlib.Core.Logic.{◌⊎◌, ⊎_elim}
-use mathlib.Core.Path.{◌≡◌}
-use Prim.Native.Nat.{ℕ, ◌<◌}
-use native.Mathlib.Omega.{arith}
+use Rattle.std.proofs.Common.{List, ◌⊎◌, ⊎_elim, ◌≡◌, ℕ, ◌<◌, arith}
 use Rattle.table.specs.declared.Counts.{Counts}
 use Rattle.table.specs.Records.{receiving, sending, object_record}
 use Rattle.table.specs.Rules.{references}

@@ -1,10 +1,6 @@
 -- What one turn of the search over I-PDUs shows: the test at its record.
 -- Assumes nothing.
-use mathlib.Core.Bool.{Bool, true, false, not, ◌||◌}
-use mathlib.Core.List.{List}
-use mathlib.Core.Path.{◌≡◌, refl, sym, ap, ◌∙◌}
-use Prim.Native.Nat.{ℕ, ◌+◌, ◌*◌, ◌≤◌, ◌<◌}
-use native.Mathlib.Omega.{arith}
+use Rattle.std.proofs.Common.{Bool, true, false, not, ◌||◌, List, ◌≡◌, refl, sym, ap, ◌∙◌, ℕ, ◌+◌, ◌*◌, ◌≤◌, ◌<◌, arith}
 use Rattle.memory.specs.Search.{any_below, least}
 use Rattle.memory.proofs.Search.{any_more, any_false, least_at, least_none}
 use Rattle.table.specs.Records.{ipdu_base, ipdu_record_at, ipdu_record}
@@ -13,15 +9,15 @@ use Rattle.table.specs.Check.{wrong_ipdu}
 
 -- the I-PDU of this turn is wrong; none is, up to it; none is
 module _ (t : List ℕ) (k : ℕ) {b : Bool} (test : b ≡ ipdu_right (ipdu_record_at (ipdu_base + 16 * k) t)) (none : any_below k (wrong_ipdu t) ≡ false) where
-  here : wrong_ipdu t k ≡ not b
+  here : not b ≡ wrong_ipdu t k
   unfolding ipdu_record
-  here = ap not (sym test)
+  here = ap not test
 
   pub first_wrong : {n : ℕ} → k < n → b ≡ false → k ≡ least n (wrong_ipdu t)
-  first_wrong {n} h e = sym (least_at n (wrong_ipdu t) k h (any_false k (wrong_ipdu t) none) (here ∙ e))
+  first_wrong {n} h e = sym (least_at n (wrong_ipdu t) k h (any_false k (wrong_ipdu t) none) (rw e at (sym here)))
 
   pub none_wrong_upto : b ≡ true → any_below (k + 1) (wrong_ipdu t) ≡ false
-  none_wrong_upto e = any_more (wrong_ipdu t) k none (here ∙ e)
+  none_wrong_upto e = any_more (wrong_ipdu t) k none (rw e at (sym here))
 
 pub none_wrong : (t : List ℕ) {n k : ℕ} → k ≤ n → n ≤ k → any_below k (wrong_ipdu t) ≡ false → k ≡ least n (wrong_ipdu t)
 none_wrong t {n} {k} low high none =

@@ -1,14 +1,7 @@
 -- From a right header to the table's shape, and from what the searches found to what the check answers.
 -- Assumes nothing.
-use mathlib.Core.Bool.{true}
-use mathlib.Core.List.{List, [], ◌∷◌}
-use mathlib.Core.Logic.{⊎_elim}
-use mathlib.Core.Path.{◌≡◌}
-use Prim.Native.Nat.{ℕ, ◌≤◌, ◌<◌}
-use native.Mathlib.Omega.{arith}
-use borrow.Author.Tests.{leb-true, eqb-true, lt-ltb, le-ltb, ltb-true, not-false}
-use lib.Dec.{leb, ltb, eqb}
-use lib.ListN.{length}
+use Rattle.std.proofs.Common.{true, List, [], ◌∷◌, ⊎_elim, ◌≡◌, ℕ, ◌≤◌, ◌<◌, arith, leb-true, eqb-true, lt-ltb, le-ltb, ltb-true, leb, ltb, eqb, length, ap, false, not}
+use borrow.Author.Tests.{not-false}
 use Rattle.memory.specs.Bytes.{number_at}
 use Rattle.memory.specs.Search.{least}
 use Rattle.memory.proofs.Search.{least_before}

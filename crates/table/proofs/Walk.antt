@@ -1,14 +1,6 @@
 -- The walk over the objects: what holds after i of them, one more, and where it ends. Each law asks for what the callees answered.
 -- Assumes nothing.
-use mathlib.Core.Bool.{Bool, true, false, not}
-use mathlib.Core.List.{List}
-use mathlib.Core.Path.{◌≡◌, refl, sym, ap, ◌∙◌}
-use Prim.Native.Nat.{ℕ, suc, ◌+◌, ◌*◌, ◌^◌, ◌≤◌, ◌<◌, zero-le}
-use native.Mathlib.Numerals.{add-one}
-use native.Mathlib.Omega.{arith}
-use borrow.Author.Count.{below_more}
-use borrow.Author.Tests.{lt-ltb, le-ltb, leb-true, not-false}
-use lib.Dec.{leb}
+use Rattle.std.proofs.Common.{Bool, true, false, not, List, ◌≡◌, refl, sym, ap, ◌∙◌, ℕ, suc, ◌+◌, ◌*◌, ◌^◌, ◌≤◌, ◌<◌, zero-le, add-one, arith, below_more, lt-ltb, le-ltb, leb-true, leb}
 use Rattle.memory.specs.Search.{least}
 use Rattle.memory.proofs.Search.{least_at, least_none}
 use Rattle.table.specs.declared.Counts.{Counts}
