@@ -1,0 +1,11 @@
+-- `table::decode::transfer_of`: the test picks the transfer.
+-- Assumes nothing.
+use Rattle.std.proofs.Common.{eq-eqb, ne_eqb, true, false}
+
+use Rattle.config.proofs.decode.transfer_of.Goals as goal
+
+pub returns-then-n-eq0 : goal.returns-then-n-eq0
+returns-then-n-eq0 c = rw (eq-eqb _ _ c.if-n-eq0.true)
+
+pub returns-else-n-eq0 : goal.returns-else-n-eq0
+returns-else-n-eq0 c = rw (ne_eqb _ _ c.if-n-eq0.false)
