@@ -1,6 +1,6 @@
 -- The length of an I-PDU by what the check answered: what `ipdu_length` has at hand in each case.
 -- Assumes nothing.
-use Rattle.std.proofs.Common.{List, ◌≡◌, sym, ◌∙◌, ℕ, ap}
+use Rattle.std.proofs.Common.{List, ◌≡◌, sym, ◌∙◌, ℕ}
 use Rattle.table.specs.declared.Counts.{Counts}
 use Rattle.table.specs.declared.Verdict.{Verdict}
 use Rattle.table.specs.declared.Verdict.TheVariants.{Accepted}

@@ -1,15 +1,8 @@
 -- A working memory in range stays so: where a row is set to numbers in their ranges, and where bytes outside the rows change.
 -- Assumes nothing.
-use mathlib.Core.Bool.{true, not}
-use mathlib.Core.List.{List, [], ◌∷◌}
-use mathlib.Core.Logic.{◌⊎◌, inl, inr, ⊎_elim}
-use mathlib.Core.Path.{◌≡◌, ap}
-use Prim.Native.Nat.{ℕ, ◌+◌, ◌-◌, ◌^◌, ◌≤◌, ◌<◌}
-use native.Mathlib.Omega.{arith}
-use borrow.Author.Tests.{leb-true, le-leb, eqb-true, eq-eqb, not-true, not-false}
-use lib.Dec.{leb, eqb}
-use lib.ListN.{length}
-use Rattle.memory.specs.Bytes.{Bytes, value, part, number_at, replaced}
+use Rattle.std.proofs.Common.{true, not, List, [], ◌∷◌, ◌⊎◌, inl, inr, ⊎_elim, ◌≡◌, ap, ℕ, ◌+◌, ◌-◌, ◌^◌, ◌≤◌, ◌<◌, arith, leb-true, le-leb, eqb-true, eq-eqb, leb, eqb, length}
+use borrow.Author.Tests.{not-false, not-true}
+use Rattle.memory.specs.Bytes.{Bytes, part, number_at, replaced}
 use Rattle.memory.proofs.Parts.{part_apart, replaced_length, replaced_bytes}
 use Rattle.memory.specs.Search.{any_below}
 use Rattle.memory.proofs.Search.{any_none, any_false}
@@ -197,8 +190,8 @@ in_range_ready t c m right bt long bm e =
       long = long;
       bytes = bm;
       running = all.0;
-      ipdus = λ k h. not-false _ (any_false c.ipdus (ipdu_out t m) (all.1.0) k h);
-      objects = λ i h. not-false _ (any_false c.objects (object_out t c m) (all.1.1) i h);
+      ipdus = λ k h. not-false _ (any_false c.ipdus (ipdu_out t m) (not-true _ all.1.0) k h);
+      objects = λ i h. not-false _ (any_false c.objects (object_out t c m) (not-true _ all.1.1) i h);
     }
 
 pub ready_in_range : (t : List ℕ) (c : Counts) (m : List ℕ) → Ready t c m → in_range t c m ≡ true

@@ -1,15 +1,8 @@
 -- Laws of the stored numbers: what was stored is read, and everything apart from the row is as it was.
 -- Assumes nothing.
-use mathlib.Core.Bool.{true}
-use mathlib.Core.List.{List}
-use mathlib.Core.Logic.{◌⊎◌, inl, inr, ⊎_elim}
-use mathlib.Core.Path.{◌≡◌, refl}
-use Prim.Native.Nat.{ℕ, ◌+◌, ◌*◌, ◌^◌, ◌≤◌, ◌<◌}
-use native.Mathlib.Nat.{mod-eq_of_lt}
-use native.Mathlib.Omega.{arith}
-use lib.ListN.{length}
+use Rattle.std.proofs.Common.{true, List, ◌⊎◌, inl, inr, ⊎_elim, ◌≡◌, refl, ℕ, ◌+◌, ◌*◌, ◌^◌, ◌≤◌, ◌<◌, mod-eq_of_lt, arith, length}
 use Rattle.table.specs.Records.{most_ipdus}
-use Rattle.memory.specs.Bytes.{Bytes, value, number_at, part, replaced}
+use Rattle.memory.specs.Bytes.{Bytes, number_at, part, replaced}
 use Rattle.memory.specs.Rows.{Field, put, rising}
 use Rattle.memory.proofs.Parts.{number_lt, part_apart}
 use Rattle.memory.proofs.Rows.{put_length, put_apart, put_holds, put_bytes, put_commute, put_same}

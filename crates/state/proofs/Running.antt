@@ -1,12 +1,6 @@
 -- Storing whether the layer runs changes byte 0 alone, and keeps every number in its range.
 -- Assumes nothing.
-use mathlib.Core.List.{List}
-use mathlib.Core.Logic.{inr}
-use mathlib.Core.Path.{◌≡◌}
-use Prim.Native.Nat.{ℕ, ◌+◌, ◌%◌, ◌≤◌, ◌<◌}
-use native.Mathlib.Omega.{arith}
-use borrow.Author.Tests.{le-leb}
-use lib.ListN.{length}
+use Rattle.std.proofs.Common.{List, inr, ◌≡◌, ℕ, ◌+◌, ◌%◌, ◌≤◌, ◌<◌, arith, le-leb, length}
 use Rattle.memory.specs.Bytes.{bytes_of, part, number_at, replaced}
 use Rattle.memory.proofs.Parts.{bytes_of_length, bytes_of_bytes, part_apart, replaced_length, replaced_bytes, number_replaced}
 use Rattle.table.specs.declared.Counts.{Counts}

@@ -1,12 +1,7 @@
 -- A check of the rows' ranges: what one turn shows of its row, what no turn has found, and that the depths fit.
 -- Assumes nothing.
-use mathlib.Core.Bool.{Bool, true, false, not}
-use mathlib.Core.List.{List}
-use mathlib.Core.Path.{◌≡◌, sym, ap}
-use Prim.Native.Nat.{ℕ, suc, ◌+◌, ◌≤◌, ◌<◌}
-use native.Mathlib.Omega.{arith}
-use borrow.Author.Tests.{le-leb, lt-leb, not-true, not-false}
-use lib.Dec.{leb}
+use Rattle.std.proofs.Common.{Bool, true, false, not, List, ◌≡◌, sym, ap, ℕ, suc, ◌+◌, ◌≤◌, ◌<◌, arith, le-leb, leb}
+use borrow.Author.Tests.{lt-leb}
 use Rattle.memory.specs.Bytes.{number_at}
 use Rattle.memory.specs.Search.{any_below}
 use Rattle.memory.proofs.Search.{any_more, any_some, sum_more}
@@ -27,10 +22,10 @@ none_out {n} {k} out low high none = let all : n ≡ k = omega arith in rw (all,
 
 module _ (t m : List ℕ) (k : ℕ) {b : Bool} (test : b ≡ ipdu_in_range (ipdu_of (ipdu_record t k)) (ipdu_state m k)) where
   pub ipdu_out_lem : (n : ℕ) → k < n → b ≡ false → false ≡ not (any_below n (ipdu_out t m))
-  ipdu_out_lem n h e = some_out n (ipdu_out t m) h (rw (← test) e)
+  ipdu_out_lem n h e = some_out n (ipdu_out t m) h (rw (← test, e))
 
   pub ipdus_upto : b ≡ true → any_below k (ipdu_out t m) ≡ false → any_below (k + 1) (ipdu_out t m) ≡ false
-  ipdus_upto e none = any_more (ipdu_out t m) k none (rw (← test) e)
+  ipdus_upto e none = any_more (ipdu_out t m) k none (rw (← test, e))
 
 pub depth_sum : (t : List ℕ) (c : Counts) → Right t c → (i : ℕ) → i < c.objects → depths t c i + (object_record t c.ipdus i).depth ≤ most_queued
 depth_sum t c r i h = omega (arith, r.depth, sum_more c.objects (suc i) (λ j. (object_record t c.ipdus j).depth) h)
@@ -38,10 +33,10 @@ depth_sum t c r i h = omega (arith, r.depth, sum_more c.objects (suc i) (λ j. (
 module _ (t : List ℕ) (c : Counts) (i : ℕ) {first : ℕ} (sum : first ≡ depths t c i) where
   module _ (m : List ℕ) {b : Bool} (test : b ≡ object_in_range (object_record t c.ipdus i) first (object_state m i)) where
     pub object_out_lem : i < c.objects → b ≡ false → false ≡ not (any_below c.objects (object_out t c m))
-    object_out_lem h e = some_out c.objects (object_out t c m) h (rw (← sum, ← test) e)
+    object_out_lem h e = some_out c.objects (object_out t c m) h (rw (← sum, ← test, e))
 
     pub objects_upto : b ≡ true → any_below i (object_out t c m) ≡ false → any_below (i + 1) (object_out t c m) ≡ false
-    objects_upto e none = any_more (object_out t c m) i none (rw (← sum, ← test) e)
+    objects_upto e none = any_more (object_out t c m) i none (rw (← sum, ← test, e))
 
 -- the three parts of memory, the first that is out of range and the last
 module _ (t : List ℕ) (c : Counts) (m : List ℕ) {x : ℕ} (read : x ≡ number_at 1 0 m) where

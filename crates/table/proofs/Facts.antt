@@ -1,6 +1,6 @@
 -- What a right record says, field by field.
 -- Assumes nothing.
-use Rattle.std.proofs.Common.{Bool, true, false, not, ◌&&◌, ◌||◌, ◌⊎◌, inl, inr, ⊎_elim, List, [], ◌∷◌, ◌≡◌, refl, ℕ, ◌≤◌, ◌<◌, arith, leb-true, ltb-true, eqb-true, leb, ltb, eqb, length}
+use Rattle.std.proofs.Common.{Bool, true, false, not, ◌&&◌, ◌||◌, ◌⊎◌, inl, inr, ⊎_elim, List, [], ◌∷◌, ◌≡◌, refl, ℕ, ◌≤◌, ◌<◌, arith, leb-true, ltb-true, eqb-true, leb, ltb, eqb}
 use Rattle.memory.specs.Search.{pick}
 use Rattle.memory.proofs.Tests.{and_split, each_true, or_cases, true_not_false, lt_or_le}
 use Rattle.bits.specs.Bits.{room}

@@ -1,6 +1,6 @@
 -- Numbers of an I-PDU record that are read together, as the numbers of its fields.
 -- Assumes nothing.
-use Rattle.std.proofs.Common.{List, ◌≡◌, ℕ, ◌+◌, ◌*◌, arith, not}
+use Rattle.std.proofs.Common.{List, ◌≡◌, ℕ, ◌+◌, ◌*◌, arith}
 use Rattle.memory.specs.Bytes.{number_at}
 use Rattle.memory.proofs.Joined.{number_split}
 use Rattle.table.specs.Records.{ipdu_base, ipdu_record_at, ipdu_record}

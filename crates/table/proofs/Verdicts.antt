@@ -1,6 +1,6 @@
 -- From a right header to the table's shape, and from what the searches found to what the check answers.
 -- Assumes nothing.
-use Rattle.std.proofs.Common.{true, List, [], ◌∷◌, ⊎_elim, ◌≡◌, ℕ, ◌≤◌, ◌<◌, arith, leb-true, eqb-true, lt-ltb, le-ltb, ltb-true, leb, ltb, eqb, length, ap, false, not}
+use Rattle.std.proofs.Common.{true, List, [], ◌∷◌, ⊎_elim, ◌≡◌, ℕ, ◌≤◌, ◌<◌, arith, leb-true, eqb-true, lt-ltb, le-ltb, ltb-true, leb, ltb, eqb, length}
 use borrow.Author.Tests.{not-false}
 use Rattle.memory.specs.Bytes.{number_at}
 use Rattle.memory.specs.Search.{least}

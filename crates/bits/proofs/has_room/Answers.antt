@@ -1,7 +1,6 @@
 -- `bits::has_room`: each arm is the definition's clause for its order.
 -- Assumes nothing.
 use Rattle.bits.specs.Bits.{room}
-
 use Rattle.bits.proofs.has_room.Goals as goal
 
 pub returns-in-Little : goal.returns-in-Little

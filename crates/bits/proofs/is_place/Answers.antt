@@ -1,10 +1,9 @@
 -- `bits::is_place`: a length above 8 fails the second test, and one of at most 8 fits a u32.
 -- Assumes nothing.
-use Rattle.std.proofs.Common.{leb, true}
+use Rattle.std.proofs.Common.{leb}
 use borrow.Author.Tests.{lt-leb}
 use Rattle.memory.proofs.Tests.{and_false}
 use Rattle.bits.specs.Frames.{is_place}
-
 use Rattle.bits.proofs.is_place.Goals as goal
 
 pub returns-then-length-gt8 : goal.returns-then-length-gt8

@@ -1,6 +1,6 @@
 -- `bits::pack`: the frame stands at the front of a slot, is packed there and is copied back (`packs`).
 -- Assumes nothing.
-use Rattle.std.proofs.Common.{◌≤◌, ◌++◌, length, drop, rules, arith, length-take-le, sym, ap, List, ℕ, false}
+use Rattle.std.proofs.Common.{◌≤◌, ◌++◌, length, drop, rules, arith, length-take-le, sym, ap, List, ℕ}
 use Rattle.bits.proofs.Copies.{cleared, starts_in_slot, frame_short, lies_in_slot, is_packed, packs, front_long, slot_long, slot_kept}
 use Rattle.bits.proofs.pack.Goals as goal
 
@@ -43,6 +43,6 @@ returns c =
     record {
       value = search (rules, is_packed);
       frame_after =
-        packs _ _ _ _ _ c.is_place.ensures c.if-not-is_place.false c.position-at.ensures (ap (λ (f : List ℕ). f ++ drop (length c.args.frame.now) cleared) c.copy_from_slice.ensures.after)
-        long _ c.pack_slot.ensures c.copy_from_slice-2.ensures.after;
+          packs _ _ _ _ _ c.is_place.ensures c.if-not-is_place.false c.position-at.ensures (ap (λ (f : List ℕ). f ++ drop (length c.args.frame.now) cleared) c.copy_from_slice.ensures.after)
+          long _ c.pack_slot.ensures c.copy_from_slice-2.ensures.after;
     }

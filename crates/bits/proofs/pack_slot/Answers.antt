@@ -3,7 +3,6 @@
 use Rattle.std.proofs.Common.{arith, rules}
 use Rattle.memory.specs.Bytes.{Bytes}
 use Rattle.bits.proofs.Words.{field_packed}
-
 use Rattle.bits.proofs.pack_slot.Goals as goal
 
 pub returns : goal.returns

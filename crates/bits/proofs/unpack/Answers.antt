@@ -1,6 +1,6 @@
 -- `bits::unpack`: the frame stands at the front of a slot, where its bits are the slot's (`unpacks`).
 -- Assumes nothing.
-use Rattle.std.proofs.Common.{◌≤◌, length, rules, arith, false, ap, List, ℕ, ◌++◌, drop, sym}
+use Rattle.std.proofs.Common.{◌≤◌, length, rules, arith, ap, List, ℕ, ◌++◌, drop, sym}
 use Rattle.bits.proofs.Copies.{starts_in_slot, frame_short, lies_in_slot, front_long, slot_long, unpacks, cleared}
 use Rattle.bits.proofs.unpack.Goals as goal
 

@@ -5,7 +5,6 @@ use Rattle.memory.specs.Bytes.{Bytes}
 use Rattle.bits.specs.Bits.{extended}
 use Rattle.bits.proofs.Extension.{field_lt}
 use Rattle.bits.proofs.Words.{field_unpacked}
-
 use Rattle.bits.proofs.unpack_slot.Goals as goal
 
 pub extended-requires : goal.extended-requires

@@ -1,8 +1,7 @@
 -- `filter::count_in_range`: 0 is in every range; another count is where there is a period and it is below that.
 -- Assumes nothing.
-use Rattle.std.proofs.Common.{rules, false}
+use Rattle.std.proofs.Common.{rules}
 use Rattle.filter.proofs.Laws.{zero_in_range, some_in_range, none_in_range}
-
 use Rattle.filter.proofs.count_in_range.Goals as goal
 
 pub returns-then-count-eq0 : goal.returns-then-count-eq0

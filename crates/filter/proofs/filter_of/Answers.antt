@@ -4,7 +4,6 @@ use Rattle.std.proofs.Common.{ℕ, zero, suc, ◌≤◌, zero-le, ◌≡◌, sym
 use lib.ListN.{get_or-eq_default}
 use Rattle.filter.specs.declared.Filter.TheVariants.{Never}
 use Rattle.filter.specs.Filters.{filters, filter_of}
-
 use Rattle.filter.proofs.filter_of.Goals as goal
 
 -- a number is none of those below k: it is at least k

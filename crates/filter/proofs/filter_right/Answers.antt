@@ -1,8 +1,7 @@
 -- `filter::filter_right`: its tests by number are those of the definition (`by_number`).
 -- Assumes nothing.
-use Rattle.std.proofs.Common.{ne_eqb, false, true}
+use Rattle.std.proofs.Common.{ne_eqb}
 use Rattle.filter.proofs.Laws.{by_number}
-
 use Rattle.filter.proofs.filter_right.Goals as goal
 
 pub returns-then-number : goal.returns-then-number

@@ -2,7 +2,6 @@
 -- Assumes nothing.
 use Rattle.std.proofs.Common.{rules}
 use Rattle.filter.proofs.Laws.{next_goes, next_returns}
-
 use Rattle.filter.proofs.next_count.Goals as goal
 
 pub returns-then-count-period_of : goal.returns-then-count-period_of

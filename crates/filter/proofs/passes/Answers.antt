@@ -3,7 +3,6 @@
 use Rattle.std.proofs.Common.{rules}
 use Rattle.filter.specs.Filters.{passes}
 use Rattle.filter.proofs.Laws.{above_old, at_most_old, below_old, at_least_old, every_passes}
-
 use Rattle.filter.proofs.passes.Goals as goal
 
 pub returns-in-Always : goal.returns-in-Always

@@ -2,7 +2,6 @@
 -- Assumes nothing.
 use Rattle.filter.specs.Filters.{greatest_count}
 use Rattle.filter.proofs.Laws.{no_period}
-
 use Rattle.filter.proofs.period_of.Goals as goal
 
 pub returns-in-OneEveryN : goal.returns-in-OneEveryN

@@ -2,7 +2,6 @@
 -- Assumes nothing.
 use Rattle.std.proofs.Common.{rules}
 use Rattle.filter.proofs.Laws.{between}
-
 use Rattle.filter.proofs.within.Goals as goal
 
 pub returns : goal.returns

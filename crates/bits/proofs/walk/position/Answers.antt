@@ -4,7 +4,6 @@ use Rattle.std.proofs.Common.{◌≡◌, ℕ, ◌<◌, List, get_or, sym, refl, 
 use Rattle.bits.specs.declared.Order.TheVariants.{Big}
 use Rattle.bits.specs.Slots.{position}
 use Rattle.memory.proofs.Tests.{tabulate, tabulate_at}
-
 use Rattle.bits.proofs.walk.position.Goals as goal
 
 -- a number that turns each of the 64 places into the definition's does so for any one of them

@@ -2,7 +2,6 @@
 -- Assumes nothing.
 use Rattle.std.proofs.Common.{lt_of_lt_of_le, mod-lt, arith, pow_pos, pow_mono}
 use Rattle.bits.proofs.Extension.{turned_over}
-
 use Rattle.bits.proofs.word.extended.Goals as goal
 
 pub nonzero_rem-turned : goal.nonzero_rem-turned

@@ -2,7 +2,6 @@
 -- Assumes nothing.
 use Rattle.std.proofs.Common.{lt_of_lt_of_le, mod-lt, pow_pos, pow_mono}
 use Rattle.bits.specs.Slots.{bit_field}
-
 use Rattle.bits.proofs.word.field.Goals as goal
 
 pub nonzero_div-result : goal.nonzero_div-result

@@ -3,7 +3,6 @@
 use Rattle.std.proofs.Common.{arith}
 use Rattle.memory.specs.Bytes.{value, bytes_of}
 use Rattle.bits.specs.Slots.{bytes_reversed}
-
 use Rattle.bits.proofs.word.swap_bytes.Goals as goal
 
 pub returns : goal.returns

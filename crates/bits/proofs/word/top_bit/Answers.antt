@@ -1,8 +1,7 @@
 -- `bits::word::top_bit`: a power of two below 2 ^ 32, or 0.
 -- Assumes nothing.
-use Rattle.std.proofs.Common.{◌-◌, ◌<◌, refl, arith, rules, false, true}
+use Rattle.std.proofs.Common.{◌-◌, ◌<◌, refl, arith, rules}
 use lib.Pow.{pow-lt}
-
 use Rattle.bits.proofs.word.top_bit.Goals as goal
 
 pub returns-then-signed : goal.returns-then-signed

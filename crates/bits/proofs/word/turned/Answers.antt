@@ -1,7 +1,6 @@
 -- `bits::word::turned`: each arm is the definition's clause for its order.
 -- Assumes nothing.
 use Rattle.bits.specs.Slots.{turned}
-
 use Rattle.bits.proofs.word.turned.Goals as goal
 
 pub returns-in-Little : goal.returns-in-Little

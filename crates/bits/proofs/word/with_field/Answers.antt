@@ -4,7 +4,6 @@ use Rattle.std.proofs.Common.{arith, pow_pos}
 use lib.Bits.{xor_lt}
 use Rattle.bits.proofs.Slots.{field_lt}
 use Rattle.bits.proofs.Xor.{field_difference}
-
 use Rattle.bits.proofs.word.with_field.Goals as goal
 
 pub overflow_cast-differing : goal.overflow_cast-differing

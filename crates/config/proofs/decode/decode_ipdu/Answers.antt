@@ -2,7 +2,6 @@
 -- Assumes nothing.
 use Rattle.std.proofs.Common.{◌∙◌, ap}
 use Rattle.config.specs.Decode.{ipdu_of}
-
 use Rattle.config.proofs.decode.decode_ipdu.Goals as goal
 
 pub returns : goal.returns

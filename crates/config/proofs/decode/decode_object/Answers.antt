@@ -2,7 +2,6 @@
 -- Assumes nothing.
 use Rattle.std.proofs.Common.{◌∙◌, ap}
 use Rattle.config.specs.Decode.{object_of}
-
 use Rattle.config.proofs.decode.decode_object.Goals as goal
 
 pub object_of-requires : goal.object_of-requires

@@ -1,7 +1,6 @@
 -- `table::decode::direction_of`: the test picks the direction.
 -- Assumes nothing.
-use Rattle.std.proofs.Common.{eq-eqb, ne_eqb, true, false}
-
+use Rattle.std.proofs.Common.{eq-eqb, ne_eqb}
 use Rattle.config.proofs.decode.direction_of.Goals as goal
 
 pub returns-then-n-eq1 : goal.returns-then-n-eq1

@@ -1,8 +1,7 @@
 -- `table::decode::ipdu_length`: the length by each answer of the check.
 -- Assumes nothing.
-use Rattle.std.proofs.Common.{rules, ap}
+use Rattle.std.proofs.Common.{rules}
 use Rattle.config.proofs.Lengths.{verdict_shape, length_as}
-
 use Rattle.config.proofs.decode.ipdu_length.Goals as goal
 
 pub length_in-requires : goal.length_in-requires

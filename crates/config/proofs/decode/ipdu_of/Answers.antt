@@ -1,7 +1,6 @@
 -- `table::decode::ipdu_of`: each field means what the definition says.
 -- Assumes nothing.
 use Rattle.config.specs.Decode.{ipdu_of}
-
 use Rattle.config.proofs.decode.ipdu_of.Goals as goal
 
 pub returns : goal.returns

@@ -1,8 +1,7 @@
 -- `config::decode::is_signed`: the record is read only where there is one.
 -- Assumes nothing.
-use Rattle.std.proofs.Common.{lt-ltb, le-ltb, true, false}
+use Rattle.std.proofs.Common.{lt-ltb, le-ltb}
 use Rattle.config.specs.Decode.{is_signed}
-
 use Rattle.config.proofs.decode.is_signed.Goals as goal
 
 pub returns-then-n-i : goal.returns-then-n-i

@@ -1,7 +1,6 @@
 -- `table::decode::length_in`: the record is read only where there is one.
 -- Assumes nothing.
-use Rattle.std.proofs.Common.{lt-ltb, le-ltb, true, false}
-
+use Rattle.std.proofs.Common.{lt-ltb, le-ltb}
 use Rattle.config.proofs.decode.length_in.Goals as goal
 
 pub returns-then-k-n : goal.returns-then-k-n

@@ -1,7 +1,6 @@
 -- `table::decode::mode_of`: the tests pick the mode.
 -- Assumes nothing.
-use Rattle.std.proofs.Common.{eq-eqb, ne_eqb, true, false}
-
+use Rattle.std.proofs.Common.{eq-eqb, ne_eqb}
 use Rattle.config.proofs.decode.mode_of.Goals as goal
 
 pub returns-then-n-eq0 : goal.returns-then-n-eq0

@@ -1,7 +1,6 @@
 -- `table::decode::transfer_of`: the test picks the transfer.
 -- Assumes nothing.
-use Rattle.std.proofs.Common.{eq-eqb, ne_eqb, true, false}
-
+use Rattle.std.proofs.Common.{eq-eqb, ne_eqb}
 use Rattle.config.proofs.decode.transfer_of.Goals as goal
 
 pub returns-then-n-eq0 : goal.returns-then-n-eq0

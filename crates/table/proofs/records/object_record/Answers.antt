@@ -1,7 +1,6 @@
 -- `table::records::object_record`: each read is a field of the record. A line of answers for each statement.
 -- Assumes nothing.
 use Rattle.table.specs.Records.{object_record}
-
 use Rattle.table.proofs.records.object_record.Goals as goal
 
 pub returns : goal.returns

@@ -3,7 +3,6 @@
 use Rattle.std.proofs.Common.{rules}
 use Rattle.table.proofs.FieldTests.{no_constant, constants_decide}
 use Rattle.table.proofs.ObjectReads.{filter_read, constants_read}
-
 use Rattle.table.proofs.rules.filter_right.Goals as goal
 
 pub returns-then-read64-eq0 : goal.returns-then-read64-eq0

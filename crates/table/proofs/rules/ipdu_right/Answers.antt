@@ -2,7 +2,6 @@
 -- Assumes nothing.
 use Rattle.std.proofs.Common.{rules}
 use Rattle.table.proofs.IpduTests.{no_length, long, tail_some, no_direction}
-
 use Rattle.table.proofs.rules.ipdu_right.Goals as goal
 
 pub returns-then-length-lt1 : goal.returns-then-length-lt1

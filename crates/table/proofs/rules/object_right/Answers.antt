@@ -1,8 +1,7 @@
 -- `table::rules::object_right`: last bytes and filter, then the rules with or without an I-PDU.
 -- Assumes nothing.
-use Rattle.std.proofs.Common.{rules, not}
+use Rattle.std.proofs.Common.{rules}
 use Rattle.table.proofs.ObjectTests.{tail_some, filter_wrong, filtered}
-
 use Rattle.table.proofs.rules.object_right.Goals as goal
 
 pub returns-then-read64-ne0 : goal.returns-then-read64-ne0

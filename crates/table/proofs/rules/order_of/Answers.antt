@@ -1,7 +1,6 @@
 -- `table::rules::order_of`: the test picks the order.
 -- Assumes nothing.
-use Rattle.std.proofs.Common.{eq-eqb, ne_eqb, true, false}
-
+use Rattle.std.proofs.Common.{eq-eqb, ne_eqb}
 use Rattle.table.proofs.rules.order_of.Goals as goal
 
 pub returns-then-order-eq0 : goal.returns-then-order-eq0

@@ -1,8 +1,7 @@
 -- `table::rules::place_right`: size, then the room under the order.
 -- Assumes nothing.
-use Rattle.std.proofs.Common.{rules, false}
+use Rattle.std.proofs.Common.{rules}
 use Rattle.table.proofs.FieldTests.{no_size, size_past, no_order, little_room, outside, big_room, position_fits}
-
 use Rattle.table.proofs.rules.place_right.Goals as goal
 
 pub returns-then-bits-lt1 : goal.returns-then-bits-lt1

@@ -3,7 +3,6 @@
 use Rattle.std.proofs.Common.{rules}
 use Rattle.table.proofs.IpduTests.{sending_some, unwatched, watched}
 use Rattle.table.proofs.IpduReads.{word_read}
-
 use Rattle.table.proofs.rules.receive_ipdu.Goals as goal
 
 pub returns-then-read64-ne0 : goal.returns-then-read64-ne0

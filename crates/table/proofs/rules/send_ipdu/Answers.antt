@@ -3,7 +3,6 @@
 use Rattle.std.proofs.Common.{rules}
 use Rattle.table.proofs.IpduTests.{first_some, no_deadline, direct, no_period, no_offset, mixed, no_mode, periodic}
 use Rattle.table.proofs.IpduReads.{mode_read, times_read}
-
 use Rattle.table.proofs.rules.send_ipdu.Goals as goal
 
 pub returns-then-read16-ne0 : goal.returns-then-read16-ne0

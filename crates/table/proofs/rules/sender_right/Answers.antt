@@ -3,7 +3,6 @@
 use Rattle.std.proofs.Common.{rules}
 use Rattle.table.specs.Records.{object_record}
 use Rattle.table.proofs.FieldTests.{no_sender, sender_past, sender_kind}
-
 use Rattle.table.proofs.rules.sender_right.Goals as goal
 
 pub returns-then-sender-eq-NONE : goal.returns-then-sender-eq-NONE

@@ -3,7 +3,6 @@
 use Rattle.std.proofs.Common.{rules}
 use Rattle.table.proofs.FieldTests.{neither, sent_transfer, received_transfer}
 use Rattle.table.proofs.ObjectReads.{transfer_read}
-
 use Rattle.table.proofs.rules.transfer_right.Goals as goal
 
 pub returns-then-both-eq0 : goal.returns-then-both-eq0

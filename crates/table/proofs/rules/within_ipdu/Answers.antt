@@ -1,9 +1,8 @@
 -- `table::rules::within_ipdu`: direction, sender, place, then transfer property and depth by the kind.
 -- Assumes nothing.
-use Rattle.std.proofs.Common.{rules, not}
+use Rattle.std.proofs.Common.{rules}
 use Rattle.table.proofs.IpduReads.{direction_read, length_read}
 use Rattle.table.proofs.ObjectTests.{short, kind_least, kind_most, other_direction, two_ways, no_room, within_transfer}
-
 use Rattle.table.proofs.rules.within_ipdu.Goals as goal
 
 pub returns-then-read8-kind : goal.returns-then-read8-kind

@@ -1,8 +1,7 @@
 -- `table::rules::without_ipdu`: the place of a whole value, then sender, transfer property and depth by the kind.
 -- Assumes nothing.
-use Rattle.std.proofs.Common.{rules, not}
+use Rattle.std.proofs.Common.{rules}
 use Rattle.table.proofs.ObjectTests.{another_ipdu, start_some, not_whole, not_little, sent_from_sender, sent_outside, no_kind, transfer_wrong, sender_decides}
-
 use Rattle.table.proofs.rules.without_ipdu.Goals as goal
 
 pub returns-then-read8-ne-NONE : goal.returns-then-read8-ne-NONE

@@ -1,10 +1,9 @@
 -- `table::search::check`: the header, then the lowest wrong I-PDU, then the lowest wrong object, as the definition orders them.
 -- Assumes nothing.
-use Rattle.std.proofs.Common.{rules, ap, true, false, not}
+use Rattle.std.proofs.Common.{rules}
 use Rattle.memory.proofs.Tests.{tested_true, tested_false}
 use Rattle.table.specs.Check.{check}
 use Rattle.table.proofs.Verdicts.{header_long, counts_shape, none_found, names_ipdu, names_object, accepts}
-
 use Rattle.table.proofs.search.check.Goals as goal
 
 pub returns-then-not-header_right : goal.returns-then-not-header_right

@@ -1,8 +1,7 @@
 -- `table::search::first_wrong_ipdu`: no I-PDU passed is wrong, and the loop ends at the first that is.
 -- Assumes nothing.
-use Rattle.std.proofs.Common.{◌-◌, rules, not}
+use Rattle.std.proofs.Common.{rules}
 use Rattle.table.proofs.Turns.{first_wrong, none_wrong_upto, none_wrong}
-
 use Rattle.table.proofs.search.first_wrong_ipdu.Goals as goal
 
 pub returns-then-not-ipdu_right : goal.returns-then-not-ipdu_right

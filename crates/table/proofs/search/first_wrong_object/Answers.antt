@@ -1,8 +1,7 @@
 -- `table::search::first_wrong_object`: the objects passed are right, and the depth is their sum (`Passed`).
 -- Assumes nothing.
-use Rattle.std.proofs.Common.{⊎_elim, ◌-◌, rules, not}
+use Rattle.std.proofs.Common.{rules}
 use Rattle.table.proofs.Walk.{walk_starts, walk_goes_on, walk_stays, walk_ends, ends_alone, depth_fits, ends_past_depth}
-
 use Rattle.table.proofs.search.first_wrong_object.Goals as goal
 use Rattle.table.proofs.search.first_wrong_object.Goals.{then-d-ne0+else-depth-gt-MOST_QUEUED, else-d-ne0}
 
@@ -24,6 +23,6 @@ returns c = search (rules, walk_ends)
 pub loop-i-preserved : goal.loop-i-preserved
 loop-i-preserved c =
     elim c.if-d-ne0.branch [
-      then-d-ne0+else-depth-gt-MOST_QUEUED w ↦ rw w.depth-is (search (rules, walk_goes_on))
-    | else-d-ne0 w ↦ rw w.depth-is (search (rules, walk_stays))
+      | then-d-ne0+else-depth-gt-MOST_QUEUED w ↦ rw w.depth-is (search (rules, walk_goes_on))
+      | else-d-ne0 w ↦ rw w.depth-is (search (rules, walk_stays))
     ]
