@@ -68,7 +68,7 @@ module _ (last : List ℕ → Fields) (joins : (f : List ℕ) (b : ℕ) → eqb 
   word_joins f [] e = rw (append-nil f)
   word_joins f (b ∷ w) e =
       let both = and_split (not (eqb b blank)) (is_word w) e in
-      ap (λ (g : Fields). fields_from g w) (joins f b (both.0))
+      ap (λ (g : Fields). fields_from g w) (joins f b (not-true (eqb b blank) both.0))
       ∙ word_joins (f ++ b ∷ []) w both.1 ∙ ap last (append_snoc f b w)
 
 -- one part of a line after the other

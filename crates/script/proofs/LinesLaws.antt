@@ -1,9 +1,7 @@
 -- Laws for reading a line: tests and choices by them, numerals by their variant, one hex digit more, and the bytes of a number stored one after the other.
 -- Assumes nothing.
-use Rattle.std.proofs.Common.{◌≡◌, ℕ, zero, suc, ◌+◌, ◌-◌, ◌*◌, ◌/◌, ◌%◌, ◌^◌, ◌<◌, ◌≤◌, Bool, true, false, ◌&&◌, ltb, leb, List, [], ◌∷◌, length, set, sym, refl, ◌∙◌, arith, w32, Fits, ltb-true, le-ltb, lt-ltb, leb-true}
-use denote.Enum.Declared.{tag_of}
+use Rattle.std.proofs.Common.{◌≡◌, ℕ, zero, suc, ◌+◌, ◌-◌, ◌*◌, ◌/◌, ◌%◌, ◌^◌, ◌<◌, ◌≤◌, Bool, true, false, ◌&&◌, ltb, leb, List, length, set, sym, refl, ◌∙◌, arith, w32, Fits, ltb-true, le-ltb, lt-ltb, leb-true}
 use lib.Seq.{sets}
-use types.Run.{OneOf, miss}
 use Rattle.memory.proofs.Parts.{sets_snoc}
 use Rattle.memory.proofs.Tests.{and_split}
 use Rattle.memory.specs.Search.{pick}
@@ -16,7 +14,6 @@ use Rattle.script.specs.declared.Reading.TheVariants.{Unreadable}
 use Rattle.script.specs.Reading.{with_minus, if_integer, if_number, hex_value}
 use Rattle.script.specs.Reader.{one_more, hex_with, bytes_down}
 use Rattle.script.proofs.BytesDown.{down_length}
-use Rattle.script.specs.contracts.Numeral.{the_type}
 
 pub between : (low high b : ℕ) → (leb low b && leb b high) ≡ true → (low ≤ b) × (b ≤ high)
 between low high b e = let both = and_split (leb low b) (leb b high) e in (leb-true low b both.0, leb-true b high both.1)
@@ -35,28 +32,29 @@ other test answer x y z e f same = rw (sym e ∙ f) same
 pub not_below : {A : Type 0} (a b : ℕ) (x y z : A) → b ≤ a → z ≡ y → z ≡ pick (ltb a b) x y
 not_below a b x y z h same = rw (le-ltb a b h) same
 
--- ---- a numeral by its place among the variants
+-- ---- a numeral by the variants that it is not
 
-pub not_nothing : (n : Numeral) → OneOf (1 ∷ 2 ∷ 3 ∷ 4 ∷ []) (tag_of the_type n) → Wrong ≡ with_minus n
-not_nothing Nothing e = absurd (miss (1 ∷ 2 ∷ 3 ∷ 4 ∷ []) 0 tt e)
-not_nothing (Number n) e = refl
-not_nothing Minus e = refl
-not_nothing (Negative n) e = refl
-not_nothing Wrong e = refl
+pub not_nothing : (n : Numeral) → (n ≡ Nothing → ⊥) → Wrong ≡ with_minus n
+not_nothing Nothing unlike = absurd (unlike refl)
+not_nothing (Number n) unlike = refl
+not_nothing Minus unlike = refl
+not_nothing (Negative n) unlike = refl
+not_nothing Wrong unlike = refl
 
-pub no_number : (n : Numeral) (then : ℕ → Reading) → OneOf (0 ∷ 2 ∷ 3 ∷ 4 ∷ []) (tag_of the_type n) → Unreadable ≡ if_number n then
-no_number Nothing then e = refl
-no_number (Number n) then e = absurd (miss (0 ∷ 2 ∷ 3 ∷ 4 ∷ []) 1 tt e)
-no_number Minus then e = refl
-no_number (Negative n) then e = refl
-no_number Wrong then e = refl
+pub no_number : (n : Numeral) (then : ℕ → Reading) → ((x : ℕ) → n ≡ Number x → ⊥) → Unreadable ≡ if_number n then
+no_number Nothing then unlike = refl
+no_number (Number n) then unlike = absurd (unlike n refl)
+no_number Minus then unlike = refl
+no_number (Negative n) then unlike = refl
+no_number Wrong then unlike = refl
 
-pub no_integer : (n : Numeral) (plain below : ℕ → Reading) → OneOf (0 ∷ 2 ∷ 4 ∷ []) (tag_of the_type n) → Unreadable ≡ if_integer n plain below
-no_integer Nothing plain below e = refl
-no_integer (Number n) plain below e = absurd (miss (0 ∷ 2 ∷ 4 ∷ []) 1 tt e)
-no_integer Minus plain below e = refl
-no_integer (Negative n) plain below e = absurd (miss (0 ∷ 2 ∷ 4 ∷ []) 3 tt e)
-no_integer Wrong plain below e = refl
+pub no_integer : (n : Numeral) (plain below : ℕ → Reading) → ((x : ℕ) → n ≡ Number x → ⊥) → ((x : ℕ) → n ≡ Negative x → ⊥)
+    → Unreadable ≡ if_integer n plain below
+no_integer Nothing plain below unlike nor = refl
+no_integer (Number n) plain below unlike nor = absurd (unlike n refl)
+no_integer Minus plain below unlike nor = refl
+no_integer (Negative n) plain below unlike nor = absurd (nor n refl)
+no_integer Wrong plain below unlike nor = refl
 
 -- ---- hex digits and bytes
 

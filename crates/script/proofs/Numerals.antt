@@ -123,7 +123,7 @@ module _ (f : List ℕ) where
       picked (Spelt (f ++ digit_of d ∷ [])) (not (eqb m 0) && ltb (10 * m + d) (2 ^ 32)) (Number (10 * m + d)) Wrong
       (λ t.
       let both = and_split (not (eqb m 0)) (ltb (10 * m + d) (2 ^ 32)) t in
-      let some : m ≡ 0 → ⊥ = eqb-false m 0 (both.0) in
+      let some : m ≡ 0 → ⊥ = eqb-false m 0 (not-true (eqb m 0) both.0) in
       next_digit false f m d low (omega arith) (ltb-true (10 * m + d) (2 ^ 32) both.1) is)
       (λ t. tt)
   spelt_digit Minus d low is =

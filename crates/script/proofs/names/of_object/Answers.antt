@@ -1,0 +1,20 @@
+-- `script::names::of_object`: the numbers are those of the names, in the definition's order.
+-- Assumes nothing.
+use Rattle.std.proofs.Common.{rules}
+use Rattle.script.proofs.LinesLaws.{found, other}
+use Rattle.script.proofs.names.of_object.Goals as goal
+
+pub returns-then-named : goal.returns-then-named
+returns-then-named c = search (rules, found, other)
+
+pub returns-then-named-2 : goal.returns-then-named-2
+returns-then-named-2 c = search (rules, found, other)
+
+pub returns-then-named-3 : goal.returns-then-named-3
+returns-then-named-3 c = search (rules, found, other)
+
+pub returns-then-named-4 : goal.returns-then-named-4
+returns-then-named-4 c = search (rules, found, other)
+
+pub returns : goal.returns
+returns c = search (rules, other)
