@@ -20,9 +20,10 @@ endif
 .DELETE_ON_ERROR:
 all: $(archive)
 
-$(archive): $(shell find crates -type f) crates.txt
+# crates/NAME/out is what rt makes
+$(archive): $(shell find crates -regex 'crates/[^/]*/out' -prune -o -type f -print) crates.txt
 	@echo "rt proves the crates that the archive holds: some minutes"
-	rt staticlib exports
+	tools/build exports
 
 target/packaging/%: packaging/%.in bindings/rust/Cargo.toml
 	@mkdir -p $(@D)

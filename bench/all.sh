@@ -8,7 +8,7 @@ set -euo pipefail
 cd "$(dirname "$0")/.."
 out=$(mktemp -d)
 trap 'rm -rf "$out"' EXIT
-rt staticlib exports > "$out/said" || { cat "$out/said" >&2; exit 1; }
+tools/build exports > "$out/said" 2>&1 || { cat "$out/said" >&2; exit 1; }
 
 bash bench/beside.sh > "$out/beside" || { cat "$out/beside"; exit 1; }
 grep -v ' | ' "$out/beside"

@@ -8,7 +8,7 @@
 # target/staticlib/libexports.a, gcc, rustc and valgrind.
 set -euo pipefail
 cd "$(dirname "$0")/.."
-[ -f target/staticlib/libexports.a ] || { echo "beside: run 'rt staticlib exports' first" >&2; exit 1; }
+[ -f target/staticlib/libexports.a ] || { echo "beside: run 'tools/build exports' first" >&2; exit 1; }
 out=$(mktemp -d)
 trap 'rm -rf "$out"' EXIT
 for part in check objects ipdus sheet; do

@@ -3,7 +3,7 @@
 # packing.rs; and the number of jumps in each compiled function. Needs rt, rustc, valgrind and objdump.
 set -euo pipefail
 cd "$(dirname "$0")/.."
-rt staticlib slots > /dev/null
+tools/build slots > /dev/null
 out=$(mktemp -d)
 trap 'rm -rf "$out"' EXIT
 rustc -C opt-level=3 -C panic=abort --edition 2021 -o "$out/packing" bench/packing.rs \

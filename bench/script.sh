@@ -3,7 +3,7 @@
 # twice as many turns, by the lines more. Then lines a second on this machine, of the fastest of five runs. Needs rt, rustc and valgrind.
 set -euo pipefail
 cd "$(dirname "$0")/.."
-rt check drive > /dev/null
+tools/build drive > /dev/null
 out=$(mktemp -d)
 trap 'rm -rf "$out"' EXIT
 rustc -C opt-level=3 --edition 2021 -o "$out/script" bench/script.rs

@@ -7,7 +7,7 @@
 set -euo pipefail
 cd "$(dirname "$0")/.."
 archive=target/staticlib/libexports.a
-[ -f $archive ] || { echo "size: run 'rt staticlib exports' first" >&2; exit 2; }
+[ -f $archive ] || { echo "size: run 'tools/build exports' first" >&2; exit 2; }
 out=$(mktemp -d)
 trap 'rm -rf "$out"' EXIT
 rustc -C opt-level=3 -C panic=abort --edition 2021 -o "$out/stack" bench/stack.rs -L target/staticlib -l static=exports

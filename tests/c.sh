@@ -7,7 +7,7 @@ archive=target/staticlib/libexports.a
 for compiler in gcc g++; do
     command -v "$compiler" > /dev/null || { echo "c.sh: $compiler is missing" >&2; exit 2; }
 done
-[ -f "$archive" ] || { echo "c.sh: $archive is missing: run 'rt staticlib exports' first" >&2; exit 2; }
+[ -f "$archive" ] || { echo "c.sh: $archive is missing: run 'tools/build exports' first" >&2; exit 2; }
 out=$(mktemp -d)
 trap 'rm -rf "$out"' EXIT
 

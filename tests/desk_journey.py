@@ -75,7 +75,7 @@ def check_met(met, least):
 
 def main():
     if not os.path.exists(DRIVE):
-        fail("target/bin/drive is missing: run 'rt check drive' first")
+        fail("target/bin/drive is missing: run 'tools/build drive' first")
     random.seed(1)
     met, calls = collections.Counter(), 0
     with tempfile.TemporaryDirectory() as folder:

@@ -316,7 +316,7 @@ def main():
     random.seed(1)
     left_out = [tool for tool in ("gcc", "g++", "rustc", "cargo") if not shutil.which(tool)]
     if not os.path.exists(ARCHIVE):
-        fail("target/staticlib/libexports.a is missing: run 'rt staticlib exports' first")
+        fail("target/staticlib/libexports.a is missing: run 'tools/build exports' first")
     with tempfile.TemporaryDirectory() as folder:
         boards = all_boards(folder)
         nodes = {prefix: Expected(text, board.node) for prefix, (text, board) in boards.items()}

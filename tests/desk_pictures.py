@@ -253,7 +253,7 @@ def output_of(journey, command):
 
 def main():
     if not os.path.exists(DRIVE):
-        sys.exit("desk_pictures.py: target/bin/drive is missing: run 'rt check drive' first")
+        sys.exit("desk_pictures.py: target/bin/drive is missing: run 'tools/build drive' first")
     found, met, values, count, said = Counter(), Counter(), 0, 0, ""
     with tempfile.TemporaryDirectory(ignore_cleanup_errors=True) as folder:
         for journey in all_journeys(folder):

@@ -112,7 +112,7 @@ def wrong_uses(folder):
         (["tools/journey", "script", van, "bad.log"], 1, "journey: bad.log: line 1: .."),
         (["tools/journey", "script", van, "bad.log", "--drain", "soon"], 2, "journey script: error: argument --drain: soon is no time in ms"),
         (["tools/journey", "script", van, "examples/climate.log", "--drain", "150"], 1, "journey: examples/van.toml: tick_ms: a drain every 150 ms .."),
-        (["tools/journey", "svg", van, "examples/van.script", "--drive", "none"], 1, "journey: none: is missing: `rt check drive` proves and builds it"),
+        (["tools/journey", "svg", van, "examples/van.script", "--drive", "none"], 1, "journey: none: is missing: `tools/build drive` proves and builds it"),
         (["tools/journey", "svg", van, "examples/van.script", "--drive", "bytes"], 1, "journey: bytes: fails: Permission denied"),
         (["tools/journey", "log", van, "examples/van.script", "other.stdout"], 1,
          "journey: other.stdout: has 1 answers, and examples/van.script has 127 calls: they are not of one run"),
@@ -209,7 +209,7 @@ def progress(folder):
 
 def main():
     if not all(os.path.exists(os.path.join(TOP, "target", "bin", name)) for name in ("drive", "table_check")):
-        fail("target/bin/drive or target/bin/table_check is missing: run 'rt check drive' and 'rt check table_check' first")
+        fail("target/bin/drive or target/bin/table_check is missing: run 'tools/build drive table_check' first")
     with tempfile.TemporaryDirectory() as folder:
         folder_like(folder)
         with_databases, left_out = has_databases(folder), ", those with a database left out: python3-canmatrix is not on this machine"

@@ -118,7 +118,7 @@ def examples():
 def main():
     tables()
     if not os.path.exists(PROGRAM):
-        sys.exit("drive.py: target/bin/drive is missing: run 'rt check drive' first")
+        sys.exit("drive.py: target/bin/drive is missing: run 'tools/build drive' first")
     played = examples()
     with tempfile.TemporaryDirectory() as folder:
         tried = files_that_cannot_be_read(folder) + arguments()

@@ -4,7 +4,7 @@
 set -euo pipefail
 cd "$(dirname "${BASH_SOURCE[0]}")/.."
 program=target/bin/drive
-[ -x "$program" ] || { echo "drive.sh: $program is missing: run 'rt check drive' first" >&2; exit 2; }
+[ -x "$program" ] || { echo "drive.sh: $program is missing: run 'tools/build drive' first" >&2; exit 2; }
 out=$(mktemp -d)
 trap 'rm -rf "$out"' EXIT
 rustc -O --edition 2021 --cfg own -o "$out/drive" tests/drive/main.rs

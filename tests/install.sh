@@ -7,7 +7,7 @@ archive=target/staticlib/libexports.a
 for tool in make pkg-config cmake gcc g++; do
     command -v "$tool" > /dev/null || { echo "install.sh: $tool is missing" >&2; exit 2; }
 done
-[ -f "$archive" ] || { echo "install.sh: $archive is missing: run 'rt staticlib exports' first" >&2; exit 2; }
+[ -f "$archive" ] || { echo "install.sh: $archive is missing: run 'tools/build exports' first" >&2; exit 2; }
 out=$(mktemp -d)
 trap 'rm -rf "$out"' EXIT
 unset MAKEFLAGS DESTDIR PREFIX

@@ -110,7 +110,7 @@ def check_layout(layout):
         found(rf"^{group}_row {index} = ({group}_rows \+ row_size \* {index})$", source, file)
         rows = re.findall(rf"(\w+) = number_at (\d+) \({group}_row {index} \+ (\d+)\) m;", source)
         same(f"{file}, {group}_state", {name: (int(at), int(size)) for name, size, at in rows}, numbers(layout, group))
-        fields = re.findall(r"field_at (\d+) (\d+) \(s \.(\w+)\)", found(rf"^{group}_fields s =(.*?)\[\]$", source, file))
+        fields = re.findall(r"field_at (\d+) (\d+) s\.(\w+)", found(rf"^{group}_fields s =(.*?)\[\]$", source, file))
         same(f"{file}, {group}_fields", {name: (int(at), int(size)) for at, size, name in fields}, numbers(layout, group))
     file = "crates/queue/specs/Queues.antt"
     place = found(r"^place_at depth s n = queues \+ (\d+) \*", text(*file.split("/")), file)
@@ -322,7 +322,7 @@ def main():
         if not shutil.which(tool):
             fail(f"{tool} is missing")
     if not os.path.exists(ARCHIVE):
-        fail("target/staticlib/libexports.a is missing: run 'rt staticlib exports' first")
+        fail("target/staticlib/libexports.a is missing: run 'tools/build exports' first")
     layout = memory_view.default_layout()
     check_words(layout)
     check_layout(layout)

@@ -71,7 +71,7 @@ def largest_cases():
 
 def main():
     if not os.path.exists(PROGRAM):
-        sys.exit("table_check.py: target/bin/table_check is missing: run 'rt check table_check' first")
+        sys.exit("table_check.py: target/bin/table_check is missing: run 'tools/build table_check' first")
     case12 = open(os.path.join(TOP, "crates", "table_check", "stdin"), "rb").read()
     empty = bytes([0, 0, 0, 0, 16, 0, 16, 0, 16, 0]) + bytes(6)
     random.seed(1)

@@ -17,7 +17,7 @@ fn main() {
     println!("cargo:rerun-if-changed={}", archive.display());
     if !archive.is_file() {
         eprintln!("{ARCHIVE} is not in {}.", folder.display());
-        eprintln!("Run `rt staticlib exports` at the top of the repository,");
+        eprintln!("Run `tools/build exports` at the top of the repository,");
         eprintln!("or set {FOLDER} to the folder that has it.");
         process::exit(1);
     }

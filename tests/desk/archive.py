@@ -18,7 +18,7 @@ class Answer(ctypes.Structure):
 def load(folder):
     """The archive as a shared library, which is built in the folder."""
     if not os.path.exists(ARCHIVE):
-        sys.exit("target/staticlib/libexports.a is missing: run 'rt staticlib exports' first")
+        sys.exit("target/staticlib/libexports.a is missing: run 'tools/build exports' first")
     shared = os.path.join(folder, "exports.so")
     subprocess.run(["gcc", "-shared", "-o", shared, "-Wl,--whole-archive", ARCHIVE, "-Wl,--no-whole-archive"], check=True)
     library = ctypes.CDLL(shared)

@@ -16,7 +16,7 @@ MAY_CHANGE = {"start", "send", "initialise", "indication", "confirm", "tick", "c
 def drive(program, table, script):
     """What drive prints for a script."""
     if not os.path.exists(program):
-        raise wrong(os.path.normpath(program), "", "is missing: `rt check drive` proves and builds it")
+        raise wrong(os.path.normpath(program), "", "is missing: `tools/build drive` proves and builds it")
     with tempfile.TemporaryDirectory() as folder:
         names = [os.path.join(folder, name) for name in ("table", "script")]
         for name, data in zip(names, (table, script.encode())):
