@@ -1,12 +1,6 @@
 -- What is asked of one message object, and what its steps give: its row in range, places of its queue inside working memory.
 -- Assumes nothing.
-use mathlib.Core.List.{List}
-use mathlib.Core.Logic.{⊎_elim}
-use mathlib.Core.Path.{◌≡◌}
-use Prim.Native.Nat.{ℕ, ◌+◌, ◌≤◌, ◌<◌, zero-le}
-use native.Mathlib.Omega.{arith}
-use borrow.Author.Tests.{lt-ltb, le-ltb}
-use lib.ListN.{length}
+use Rattle.std.proofs.Common.{List, ⊎_elim, ◌≡◌, ℕ, ◌+◌, ◌≤◌, ◌<◌, zero-le, arith, lt-ltb, le-ltb, length}
 use Rattle.table.specs.Records.{most_queued}
 use Rattle.memory.proofs.Tests.{lt_or_le}
 use Rattle.state.specs.declared.ObjectState.{ObjectState}
