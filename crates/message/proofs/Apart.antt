@@ -1,12 +1,6 @@
 -- What a delivery changes: the object's own row and its queue, and nothing else; and what it leaves in the row.
 -- Assumes nothing.
-use mathlib.Core.Bool.{Bool, true, false}
-use mathlib.Core.List.{List}
-use mathlib.Core.Logic.{◌⊎◌, inl, inr, ⊎_elim}
-use mathlib.Core.Path.{◌≡◌, refl, ◌∙◌}
-use Prim.Native.Nat.{ℕ, ◌+◌, ◌^◌, ◌≤◌, ◌<◌}
-use native.Mathlib.Omega.{arith}
-use lib.ListN.{length}
+use Rattle.std.proofs.Common.{Bool, true, false, List, ◌⊎◌, inl, inr, ⊎_elim, ◌≡◌, refl, ◌∙◌, ℕ, ◌+◌, ◌^◌, ◌≤◌, ◌<◌, arith, length}
 use Rattle.memory.specs.Bytes.{bytes_of, part, replaced}
 use Rattle.memory.specs.Search.{pick}
 use Rattle.memory.proofs.Parts.{bytes_of_length, part_apart, replaced_length}

@@ -1,13 +1,6 @@
 -- What the steps of one message object give: its bits stay placed, and a choice by a test that the code made.
 -- Assumes nothing.
-use mathlib.Core.Bool.{Bool, ◌&&◌}
-use mathlib.Core.List.{List}
-use mathlib.Core.Path.{◌≡◌, sym, ap, ◌∙◌}
-use Prim.Native.Nat.{ℕ}
-use native.Mathlib.Omega.{arith}
-use borrow.Author.Tests.{ne_eqb}
-use lib.Dec.{ltb, eqb}
-use lib.ListN.{length}
+use Rattle.std.proofs.Common.{Bool, ◌&&◌, List, ◌≡◌, sym, ap, ◌∙◌, ℕ, arith, ne_eqb, ltb, eqb, length}
 use Rattle.memory.specs.Bytes.{bytes_of, replaced}
 use Rattle.memory.specs.Search.{pick}
 use Rattle.filter.specs.declared.Filter.{Filter}

@@ -1,15 +1,7 @@
 -- What is done to a message object keeps working memory in range, and a working memory in range gives what its functions ask.
 -- Assumes nothing.
-use mathlib.Core.Bool.{Bool, true, false}
-use mathlib.Core.List.{List}
-use mathlib.Core.Logic.{inl, inr, ⊎_elim}
-use mathlib.Core.Path.{◌≡◌, ◌∙◌}
-use Prim.Native.Nat.{ℕ, ◌+◌, ◌-◌, ◌^◌, ◌≤◌, ◌<◌}
-use native.Mathlib.Omega.{arith}
-use borrow.Author.Tests.{ltb-true}
-use lib.Bits.{bit_or, or_lt}
-use lib.Dec.{ltb, eqb}
-use lib.ListN.{length}
+use Rattle.std.proofs.Common.{Bool, true, false, List, inl, inr, ⊎_elim, ◌≡◌, ◌∙◌, ℕ, ◌+◌, ◌-◌, ◌^◌, ◌≤◌, ◌<◌, arith, ltb-true, bit_or, ltb, eqb, length}
+use lib.Bits.{or_lt}
 use Rattle.memory.specs.Bytes.{bytes_of, part, replaced}
 use Rattle.memory.specs.Search.{pick}
 use Rattle.memory.proofs.Parts.{bytes_of_length, bytes_of_bytes, part_length, replaced_length}

@@ -1,17 +1,6 @@
 -- The values that wait in an object's queue: what a receive takes of them, what a delivery adds to them, and what leaves them.
 -- Assumes nothing.
-use mathlib.Core.Bool.{Bool, true, false}
-use mathlib.Core.List.{List, [], ◌∷◌, ◌++◌}
-use mathlib.Core.Logic.{◌⊎◌, inl, inr, ⊎_elim}
-use mathlib.Core.Path.{◌≡◌, refl, sym, ap, ap₂, ◌∙◌}
-use Prim.Native.Nat.{ℕ, zero, suc, ◌+◌, ◌-◌, ◌*◌, ◌%◌, ◌^◌, ◌≤◌, ◌<◌}
-use native.Mathlib.Nat.{le_refl, mod-eq_of_lt}
-use native.Mathlib.Numerals.{add-one}
-use native.Mathlib.Omega.{arith}
-use borrow.Author.Tests.{ltb-true, lt-ltb, le-ltb, eqb-true}
-use lib.Dec.{ltb, eqb}
-use lib.ListN.{length, length-append, take, drop}
-use lib.Seq.{take-take, drop-drop}
+use Rattle.std.proofs.Common.{Bool, true, false, List, [], ◌∷◌, ◌++◌, ◌⊎◌, inl, inr, ⊎_elim, ◌≡◌, refl, sym, ap, ap₂, ◌∙◌, ℕ, zero, suc, ◌+◌, ◌-◌, ◌*◌, ◌%◌, ◌^◌, ◌≤◌, ◌<◌, le_refl, mod-eq_of_lt, add-one, arith, ltb-true, lt-ltb, le-ltb, eqb-true, ltb, eqb, length, length-append, take, drop, take-take, drop-drop}
 use Rattle.table.specs.Records.{most_objects}
 use Rattle.memory.specs.Bytes.{value, bytes_of, part, number_at, replaced}
 use Rattle.memory.specs.Search.{pick}
