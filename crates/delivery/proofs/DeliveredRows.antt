@@ -1,12 +1,6 @@
 -- What deliveries by rising number leave in the row of an object, in it or not, and in the bytes of the I-PDUs.
 -- Assumes nothing.
-use mathlib.Core.Bool.{Bool, true, false}
-use mathlib.Core.List.{List}
-use mathlib.Core.Path.{◌≡◌, refl, sym, ap, ◌∙◌}
-use Prim.Native.Nat.{ℕ, ◌^◌, ◌≤◌, ◌<◌}
-use native.Mathlib.Omega.{arith}
-use borrow.Author.Tests.{eq-eqb}
-use lib.Dec.{eqb}
+use Rattle.std.proofs.Common.{Bool, true, false, List, ◌≡◌, refl, sym, ap, ◌∙◌, ℕ, ◌^◌, ◌≤◌, ◌<◌, arith, eq-eqb, eqb}
 use Rattle.memory.specs.Bytes.{part}
 use Rattle.memory.specs.Search.{pick, fold}
 use Rattle.memory.proofs.Search.{picked, fold_keeps, fold_view, fold_at}

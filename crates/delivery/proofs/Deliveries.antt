@@ -1,13 +1,6 @@
 -- The values that wait in the queues of a table's objects: a delivery changes those of its own object alone, and so internal delivery
 -- and a received I-PDU leave of each queue what the one delivery to its object leaves. Assumes nothing.
-use mathlib.Core.Bool.{Bool, true, false}
-use mathlib.Core.List.{List}
-use mathlib.Core.Logic.{inl, inr, ⊎_elim}
-use mathlib.Core.Path.{◌≡◌, refl, sym, ap, ◌∙◌}
-use Prim.Native.Nat.{ℕ, suc, ◌+◌, ◌*◌, ◌^◌, ◌≤◌, ◌<◌}
-use native.Mathlib.Omega.{arith}
-use borrow.Author.Tests.{eqb-true, eq-eqb, ne_eqb}
-use lib.Dec.{eqb}
+use Rattle.std.proofs.Common.{Bool, true, false, List, inl, inr, ⊎_elim, ◌≡◌, refl, sym, ap, ◌∙◌, ℕ, suc, ◌+◌, ◌*◌, ◌^◌, ◌≤◌, ◌<◌, arith, eqb-true, eq-eqb, ne_eqb, eqb}
 use Rattle.memory.specs.Search.{fold}
 use Rattle.memory.proofs.Search.{picked, sum_more, fold_view, fold_at}
 use Rattle.memory.proofs.Tests.{lt_or_le, true_or_false}

@@ -1,9 +1,6 @@
 -- Internal delivery, a received I-PDU and the marks of an I-PDU keep every stored number in its range, turn by turn.
 -- Assumes nothing.
-use mathlib.Core.List.{List}
-use Prim.Native.Nat.{ℕ, ◌^◌, ◌≤◌, ◌<◌}
-use native.Mathlib.Omega.{arith}
-use lib.Dec.{eqb}
+use Rattle.std.proofs.Common.{List, ℕ, ◌^◌, ◌≤◌, ◌<◌, arith, eqb}
 use Rattle.memory.specs.Search.{fold}
 use Rattle.memory.proofs.Search.{picked, fold_keeps}
 use Rattle.table.specs.declared.Counts.{Counts}

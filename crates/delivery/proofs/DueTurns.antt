@@ -1,12 +1,6 @@
 -- What the turn of one object gives in the walk over the I-PDUs of a word: nothing where its I-PDU is not among them, else the mark.
 -- The laws ask for plain values, so that a search finds them. Assumes nothing.
-use mathlib.Core.List.{List}
-use mathlib.Core.Path.{◌≡◌}
-use Prim.Native.Nat.{ℕ, ◌/◌, ◌%◌, ◌^◌, ◌≤◌, ◌<◌}
-use native.Mathlib.Omega.{arith}
-use borrow.Author.Tests.{lt-ltb, le-ltb}
-use lib.Bits.{bit_or}
-use lib.Pow.{pow_pos}
+use Rattle.std.proofs.Common.{List, ◌≡◌, ℕ, ◌/◌, ◌%◌, ◌^◌, ◌≤◌, ◌<◌, arith, lt-ltb, le-ltb, bit_or, pow_pos}
 use Rattle.bits.specs.Bits.{bit}
 use Rattle.table.specs.declared.Counts.{Counts}
 use Rattle.table.specs.declared.ObjectRecord.{ObjectRecord}

@@ -1,14 +1,6 @@
 -- Marks touch the rows of objects alone: the marks of a word may be made before or after an I-PDU's row is stored, and the marks of one I-PDU
 -- more are those of a word with its bit more. Assumes nothing.
-use mathlib.Core.Bool.{Bool, true, false}
-use mathlib.Core.List.{List}
-use mathlib.Core.Logic.{inl, ⊎_elim}
-use mathlib.Core.Path.{◌≡◌, refl, sym}
-use Prim.Native.Nat.{ℕ, ◌+◌, ◌^◌, ◌≤◌, ◌<◌}
-use native.Mathlib.Omega.{arith}
-use borrow.Author.Tests.{eq-eqb, ne_eqb, lt-ltb}
-use lib.Dec.{ltb, eqb}
-use lib.ListN.{length}
+use Rattle.std.proofs.Common.{Bool, true, false, List, inl, ⊎_elim, ◌≡◌, refl, sym, ℕ, ◌+◌, ◌^◌, ◌≤◌, ◌<◌, arith, eq-eqb, ne_eqb, lt-ltb, ltb, eqb, length}
 use Rattle.memory.specs.Bytes.{part}
 use Rattle.memory.specs.Search.{pick, fold}
 use Rattle.memory.proofs.Search.{fold_keeps, fold_view, fold_moves, fold_joins}

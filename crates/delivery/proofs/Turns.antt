@@ -1,11 +1,6 @@
 -- What the turn of one object gives in a walk over all objects, in it or not, and what the turns so far leave in range.
 -- The laws ask for plain values, so that a search finds them. Assumes nothing.
-use mathlib.Core.List.{List}
-use mathlib.Core.Path.{◌≡◌, sym, ap, ◌∙◌}
-use Prim.Native.Nat.{ℕ, ◌^◌, ◌≤◌, ◌<◌}
-use native.Mathlib.Omega.{arith}
-use borrow.Author.Tests.{eq-eqb, ne_eqb}
-use lib.Bits.{bit_or}
+use Rattle.std.proofs.Common.{List, ◌≡◌, sym, ap, ◌∙◌, ℕ, ◌^◌, ◌≤◌, ◌<◌, arith, eq-eqb, ne_eqb, bit_or}
 use Rattle.memory.specs.Search.{fold}
 use Rattle.table.specs.declared.Counts.{Counts}
 use Rattle.config.specs.declared.Object.{Object}
