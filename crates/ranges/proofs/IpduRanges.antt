@@ -1,13 +1,8 @@
 -- The ranges of an I-PDU's row, in the order of the code: what each test says of its part. x, y and z are numbers that were read.
 -- Assumes nothing.
-use mathlib.Core.Bool.{Bool, true, false, not, ◌&&◌}
-use mathlib.Core.Logic.{⊎_elim}
-use mathlib.Core.Path.{◌≡◌, refl, sym, ◌∙◌}
-use Prim.Native.Nat.{ℕ, ◌+◌, ◌*◌, ◌≤◌, ◌<◌, max, zero-le}
+use Rattle.std.proofs.Common.{Bool, true, false, ◌&&◌, ⊎_elim, ◌≡◌, refl, sym, ◌∙◌, ℕ, ◌+◌, ◌*◌, ◌≤◌, ◌<◌, max, zero-le, arith, eqb-true, eq-eqb, ne_eqb, le-leb, leb, eqb}
 use native.Mathlib.Nat.{le-max_left, le-max_right, max-eq_left, max-eq_right}
-use native.Mathlib.Omega.{arith}
-use borrow.Author.Tests.{eqb-true, eq-eqb, ne_eqb, le-leb, lt-leb}
-use lib.Dec.{leb, eqb}
+use borrow.Author.Tests.{lt-leb}
 use Rattle.memory.proofs.Tests.{and_split, and_false, tested_true, tested_false, eq_or_ne, lt_or_le}
 use Rattle.config.specs.declared.Direction.TheVariants.{Send, Receive}
 use Rattle.config.specs.declared.Ipdu.{Ipdu}

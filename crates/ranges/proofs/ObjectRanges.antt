@@ -1,13 +1,7 @@
 -- The ranges of an object's queue and occurrence, in the order of the code: what each test says of `used_in_range`.
 -- Assumes nothing.
-use mathlib.Core.Bool.{Bool, true, false, not}
-use mathlib.Core.List.{List}
-use mathlib.Core.Path.{◌≡◌, sym}
-use Prim.Native.Nat.{ℕ, ◌+◌, ◌-◌, ◌*◌, ◌/◌, ◌%◌, ◌^◌, ◌≤◌, ◌<◌}
-use native.Mathlib.Numerals.{add-one}
-use native.Mathlib.Omega.{arith}
-use borrow.Author.Tests.{le-leb, lt-leb, not-true, not-false}
-use lib.Dec.{leb}
+use Rattle.std.proofs.Common.{Bool, true, false, List, ◌≡◌, sym, ℕ, ◌+◌, ◌-◌, ◌*◌, ◌/◌, ◌%◌, ◌^◌, ◌≤◌, ◌<◌, add-one, arith, le-leb, leb}
+use borrow.Author.Tests.{lt-leb}
 use Rattle.memory.proofs.Tests.{and_false}
 use Rattle.filter.specs.Filters.{greatest_count, filter_of}
 use Rattle.table.specs.declared.Counts.{Counts}

@@ -1,14 +1,7 @@
 -- Bytes 8 to 15 of an object's row as one word, under the two masks of the code: what each comparison says of `object_in_range`.
 -- Assumes nothing.
-use mathlib.Core.Bool.{Bool, true, false, ◌&&◌}
-use mathlib.Core.List.{List}
-use mathlib.Core.Logic.{⊎_elim}
-use mathlib.Core.Path.{◌≡◌, refl, sym, ◌∙◌}
-use Prim.Native.Nat.{ℕ, ◌+◌, ◌-◌, ◌*◌, ◌/◌, ◌%◌, ◌≤◌, ◌<◌}
-use native.Mathlib.Omega.{arith}
-use borrow.Author.Tests.{eq-eqb, le-leb}
-use lib.Bits.{bit_and, and_zero_r, and_mask, and_high}
-use lib.Dec.{leb}
+use Rattle.std.proofs.Common.{Bool, true, false, ◌&&◌, List, ⊎_elim, ◌≡◌, refl, sym, ◌∙◌, ℕ, ◌+◌, ◌-◌, ◌*◌, ◌/◌, ◌%◌, ◌≤◌, ◌<◌, arith, eq-eqb, le-leb, bit_and, leb}
+use lib.Bits.{and_zero_r, and_mask, and_high}
 use Rattle.memory.specs.Bytes.{Bytes, number_at}
 use Rattle.memory.proofs.Joined.{number_split, masked_byte}
 use Rattle.memory.proofs.Parts.{number_lt}

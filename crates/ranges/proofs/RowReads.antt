@@ -1,17 +1,12 @@
 -- Numbers of a row or a record that are read by themselves or together, as the numbers of its fields.
 -- Assumes nothing.
-use mathlib.Core.List.{List}
-use mathlib.Core.Path.{◌≡◌}
-use Prim.Native.Nat.{ℕ, ◌+◌, ◌*◌}
-use native.Mathlib.Nat.{add-zero}
-use native.Mathlib.Omega.{arith}
+use Rattle.std.proofs.Common.{List, ◌≡◌, ℕ, ◌+◌, ◌*◌, add-zero, arith, ne_eqb}
 use Rattle.memory.specs.Bytes.{number_at}
 use Rattle.memory.proofs.Joined.{number_split}
 use Rattle.table.specs.Records.{sending, ipdu_base, object_base, ipdu_record, object_record}
 use Rattle.config.specs.declared.Direction.TheVariants.{Send, Receive}
 use Rattle.config.specs.Decode.{ipdu_of}
 use Rattle.state.specs.Layout.{ipdu_row, ipdu_state, object_row, object_state}
-use borrow.Author.Tests.{ne_eqb}
 
 -- ---- the row of I-PDU k
 
