@@ -1,12 +1,6 @@
 -- What is done to an I-PDU's stored numbers keeps them in their ranges.
 -- Assumes nothing.
-use mathlib.Core.Bool.{Bool, true, false, ◌&&◌}
-use mathlib.Core.List.{List}
-use mathlib.Core.Path.{◌≡◌, sym, ap, ◌∙◌}
-use Prim.Native.Nat.{ℕ, ◌^◌, ◌≤◌, ◌<◌, max}
-use native.Mathlib.Omega.{arith}
-use borrow.Author.Tests.{leb-true, le-leb, eqb-true}
-use lib.Dec.{leb, eqb}
+use Rattle.std.proofs.Common.{Bool, true, false, ◌&&◌, List, ◌≡◌, sym, ap, ◌∙◌, ℕ, ◌^◌, ◌≤◌, ◌<◌, max, arith, leb-true, le-leb, eqb-true, leb, eqb}
 use Rattle.memory.specs.Bytes.{Bytes}
 use Rattle.memory.specs.Search.{pick}
 use Rattle.memory.proofs.Parts.{number_lt}
