@@ -1,12 +1,5 @@
 -- The period of one I-PDU in its turn. The laws ask for plain values, so that a search finds them. Assumes nothing.
-use mathlib.Core.Bool.{Bool, true, false, not}
-use mathlib.Core.List.{List}
-use mathlib.Core.Logic.{⊎_elim}
-use mathlib.Core.Path.{◌≡◌, sym, ◌∙◌}
-use Prim.Native.Nat.{ℕ, zero, suc, ◌+◌, ◌≤◌, ◌<◌}
-use native.Mathlib.Nat.{le_refl}
-use native.Mathlib.Omega.{arith}
-use borrow.Author.Tests.{not-true, not-false}
+use Rattle.std.proofs.Common.{Bool, true, false, List, ⊎_elim, ◌≡◌, sym, ◌∙◌, ℕ, zero, suc, ◌+◌, ◌≤◌, ◌<◌, le_refl, arith}
 use Rattle.memory.specs.Search.{fold}
 use Rattle.memory.proofs.Search.{turn_more}
 use Rattle.memory.proofs.Tests.{eq_or_ne}

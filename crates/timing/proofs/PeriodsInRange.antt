@@ -1,13 +1,6 @@
 -- What starts and halts a period keeps every stored number in its range.
 -- Assumes nothing.
-use mathlib.Core.Bool.{Bool, true, false, not, ◌&&◌, ◌||◌}
-use mathlib.Core.List.{List}
-use mathlib.Core.Logic.{⊎_elim}
-use mathlib.Core.Path.{◌≡◌}
-use Prim.Native.Nat.{ℕ, ◌≤◌, ◌<◌, max}
-use native.Mathlib.Omega.{arith}
-use borrow.Author.Tests.{leb-true, eqb-true}
-use lib.Dec.{leb, eqb}
+use Rattle.std.proofs.Common.{Bool, true, false, not, ◌&&◌, ◌||◌, List, ⊎_elim, ◌≡◌, ℕ, ◌≤◌, ◌<◌, max, arith, leb-true, eqb-true, leb, eqb}
 use Rattle.memory.specs.Search.{fold}
 use Rattle.memory.proofs.Search.{fold_keeps}
 use Rattle.memory.proofs.Tests.{and_split, or_cases, true_or_false, true_not_false}

@@ -1,9 +1,6 @@
 -- What a tick does to an I-PDU's stored numbers keeps them in their ranges.
 -- Assumes nothing.
-use mathlib.Core.Bool.{Bool, true, false}
-use Prim.Native.Nat.{ℕ, ◌-◌, ◌≤◌, max}
-use native.Mathlib.Omega.{arith}
-use lib.Dec.{eqb}
+use Rattle.std.proofs.Common.{Bool, true, false, ℕ, ◌-◌, ◌≤◌, max, arith, eqb}
 use Rattle.memory.specs.Search.{pick}
 use Rattle.config.specs.declared.Ipdu.{Ipdu}
 use Rattle.state.specs.declared.IpduState.{IpduState}
