@@ -3,44 +3,47 @@
 
 mod running;
 
-use libc::{STDERR_FILENO, STDOUT_FILENO};
+use std::env::{Env, FillError};
 
-fn main() {
-    let count = os::arg_count();
+// A buffer for an argument. It holds any path; an argument that is longer counts as an empty one.
+const ARGUMENT_SIZE: usize = 4096;
+
+const USAGE: &str = "usage: drive TABLE SCRIPT
+Runs the calls of the file SCRIPT, one a line, over the table in the file TABLE,
+and prints a line for each. docs/SCRIPT.md has the language.
+";
+
+// A line that can't be written is lost.
+fn main(rt: HostRuntime) {
+    let count = argument_count(&rt);
     if count == 1 {
-        usage(STDERR_FILENO);
+        let _ = rt.eprint(USAGE);
         return;
     }
-    let mut first = io::buffer();
-    let n = os::arg(1, &mut first);
-    if is_help(&first[..n]) {
-        usage(STDOUT_FILENO);
+    let mut first = [0u8; ARGUMENT_SIZE];
+    let n = rt.arg(1, &mut first).unwrap_or(0);
+    let table = &first[..n];
+    if table == b"--help".as_slice() {
+        let _ = rt.print(USAGE);
         return;
     }
     if count != 3 {
-        io::write_all(
-            STDERR_FILENO,
-            b"drive: a table and a script are needed: drive TABLE SCRIPT\n",
-        );
+        let _ = rt.eprintln("drive: a table and a script are needed: drive TABLE SCRIPT");
         return;
     }
-    let mut second = io::buffer();
-    let k = os::arg(2, &mut second);
-    running::run(&first[..n], &second[..k]);
+    let mut second = [0u8; ARGUMENT_SIZE];
+    let k = rt.arg(2, &mut second).unwrap_or(0);
+    running::run(&rt, &rt.stderr(), table, &second[..k]);
 }
 
-fn usage(fd: i32) {
-    io::write_all(fd, b"usage: drive TABLE SCRIPT\n");
-    io::write_all(
-        fd,
-        b"Runs the calls of the file SCRIPT, one a line, over the table in the file TABLE,\n",
-    );
-    io::write_all(
-        fd,
-        b"and prints a line for each. docs/SCRIPT.md has the language.\n",
-    );
+// How many arguments there are, the program's name among them. Four stands for any more.
+fn argument_count(env: &impl Env) -> usize {
+    (0..4).take_while(|i| has_argument(env, *i)).count()
 }
 
-fn is_help(word: &[u8]) -> bool {
-    check::same(word, b"--help")
+fn has_argument(env: &impl Env, i: usize) -> bool {
+    match env.arg(i, &mut []) {
+        Ok(_) | Err(FillError::TooLong) => true,
+        Err(FillError::NotPresent) => false,
+    }
 }

@@ -1,7 +1,18 @@
-// Files for the programs: one read whole into lent bytes. Of a file that can't be read standard error says so.
+// Files for the programs: one read whole into lent bytes, or opened to be read part by part; and what standard error says of one that
+// can't be read.
 #![tactic(auto)]
 
-ghost use Rattle.io.specs.Counts.{IsPrefixLen};
+ghost use Rattle.std.specs.Prelude.{◌≡◌, ◌<◌, ◌≤◌, IfOk, IsFalse, length, take};
+ghost use Rattle.std.specs.Io.KnownBytes.{Consumes, IsAtEnd};
+ghost use Rattle.std.specs.Io.{ReadsAtMost, StartsWith};
+
+use std::fs::File;
+use std::io::{Cursor, Error, ErrorKind, Read, Write};
+use std::rt::Files;
+use std::{io, str};
+
+// std ends what it says of a system's error with this and the error's number.
+const BEFORE_NUMBER: &str = " (os error ";
 
 // Whether a file could be read, and how many bytes of it.
 #[derive(Drop)]
@@ -11,46 +22,72 @@ pub struct Filled {
 }
 
 // Reads a file until `bytes` is full or the file ends.
-pub fn read_whole(path: &[u8], bytes: &mut [u8]) -> Filled
-    ensures { IsPrefixLen result.count bytes.new }
+pub fn read_whole<R: Files>(rt: &R, stderr: &impl Print, path: &[u8], bytes: &mut [u8]) -> Filled
+    ensures in_bounds { result.count ≤ length bytes.new }
+    ensures prefix { result.count ≡ length (take result.count bytes.new) }
+    ensures failed { IsFalse result.whole → result.count ≡ 0 }
 {
-    let fd = os::open_read(path);
-    if fd < 0 {
-        os::fail(path);
-        return Filled {
-            whole: false,
-            count: 0,
-        };
-    }
-    let filled = fill(fd, path, bytes);
-    libc::close(fd);
-    filled
-}
-
-// Reads until `bytes` is full or the file ends. Each turn but the last reads a byte or more.
-fn fill(fd: i32, path: &[u8], bytes: &mut [u8]) -> Filled
-    ensures { IsPrefixLen result.count bytes.new }
-{
-    let n = bytes.len();
-    let mut done = 0;
-    let mut turns = n;
-    while turns > 0 {
-        turns -= 1;
-        let got = libc::read(fd, &mut bytes[done..]);
-        if got < 0 {
-            os::fail(path);
-            return Filled {
+    match read_some(rt, path, bytes) {
+        Ok(count) => Filled { whole: true, count },
+        Err(error) => {
+            fail(stderr, path, &error);
+            Filled {
                 whole: false,
                 count: 0,
-            };
-        }
-        done += io::count(got, &bytes[done..]);
-        if got == 0 {
-            break;
+            }
         }
     }
-    Filled {
-        whole: true,
-        count: done,
+}
+
+fn read_some<R: Files>(rt: &R, path: &[u8], bytes: &mut [u8]) -> io::Result<usize>
+    ensures { ReadsAtMost result bytes.new }
+{
+    let mut file = open(rt, path)?;
+    fill(&mut file, bytes)
+}
+
+// Opens a file to read it. std takes a path only as text.
+pub fn open<R: Files>(rt: &R, path: &[u8]) -> io::Result<R::File> {
+    match str::from_utf8(path) {
+        Ok(text) => File::open(rt, text),
+        Err(_) => Err(Error::new(ErrorKind::InvalidFilename, "the path is not UTF-8")),
+    }
+}
+
+// Reads until `bytes` is full or the reader ends.
+fn fill<R: Read>(reader: &mut R, bytes: &mut [u8]) -> io::Result<usize>
+    ensures bound { ReadsAtMost result bytes.new }
+    ensures read { IfOk result (λ n. Consumes (R.remaining reader.old) (R.remaining reader.new) (take n bytes.new)) }
+    ensures end { IfOk result (λ n. n < length bytes.new → IsAtEnd (R.remaining reader.new)) }
+{
+    let mut done = 0;
+    while done < bytes.len() {
+        let got = reader.read(&mut bytes[done..])?;
+        if got == 0 {
+            return Ok(done);
+        }
+        done += got;
+    }
+    Ok(done)
+}
+
+// Says on standard error that a file can't be read: its path, and the system's words for the error.
+pub fn fail(stderr: &impl Print, path: &[u8], error: &Error) {
+    let mut text = Cursor::new([0u8; 128]);
+    let _ = write!(text, "{error}");
+    let said = str::from_utf8(text.get_ref()).unwrap_or("");
+    let _ = stderr.write_all(path);
+    let _ = stderr.write_all(b": ");
+    let _ = stderr.write_all(words(said).as_bytes());
+    let _ = stderr.write_all(b"\n");
+}
+
+// The words of an error before its number, which only an error of the system has, and before zeros.
+fn words(said: &str) -> &str
+    ensures { StartsWith said.now result.now }
+{
+    match said.split_once(BEFORE_NUMBER) {
+        Some((words, _)) => words,
+        None => said.trim_end_matches('\0'),
     }
 }

@@ -8,12 +8,18 @@ mod pairs;
 mod sweep;
 
 use bits::Order;
+use std::io;
 
-fn main() {
-    cases::print_all();
+// What can't be written is lost, with all that comes behind it.
+fn main(rt: HostRuntime) {
+    let _ = print_all(&rt);
+}
+
+fn print_all(rt: &impl Print) -> io::Result<()> {
+    cases::print_all(rt)?;
     for length in 0..10 {
-        sweep::print(length, Order::Little);
-        sweep::print(length, Order::Big);
+        sweep::print(rt, length, Order::Little)?;
+        sweep::print(rt, length, Order::Big)?;
     }
-    pairs::print();
+    pairs::print(rt)
 }

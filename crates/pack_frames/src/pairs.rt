@@ -2,12 +2,10 @@
 // orders, eight pairs of sizes. A line with a digest of each answer, frame and value unpacked, the last one as signed.
 use super::sweep::{mix, mix_value};
 use bits::{BitSize, Order, Packing};
-use libc::STDOUT_FILENO;
+use std::io;
 
-pub(crate) fn print() {
-    io::write_all(STDOUT_FILENO, b"two readings: digest ");
-    io::print_decimal(STDOUT_FILENO, all_pairs());
-    io::write_all(STDOUT_FILENO, b"\n");
+pub(crate) fn print(rt: &impl Print) -> io::Result<()> {
+    println!(rt; "two readings: digest {}", all_pairs())
 }
 
 fn all_pairs() -> u64 {

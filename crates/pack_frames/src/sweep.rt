@@ -1,7 +1,7 @@
 // Every start bit 0..80 and every size 0..33 in a frame of one length and order: a line with how many places were packed,
 // and a digest of each answer, frame and value unpacked, as it stands and as signed.
 use bits::{BitSize, Order, Packing, Unpacking};
-use libc::STDOUT_FILENO;
+use std::io;
 
 #[derive(Drop)]
 struct Tally {
@@ -9,18 +9,16 @@ struct Tally {
     digest: u64,
 }
 
-pub(crate) fn print(length: usize, order: Order) {
+pub(crate) fn print(rt: &impl Print, length: usize, order: Order) -> io::Result<()> {
     let t = all_starts(length, order);
-    io::write_all(STDOUT_FILENO, b"length ");
-    io::print_decimal(STDOUT_FILENO, length as u64);
-    match order {
-        Order::Little => io::write_all(STDOUT_FILENO, b" little: "),
-        Order::Big => io::write_all(STDOUT_FILENO, b" big: "),
+    let name = match order {
+        Order::Little => "little",
+        Order::Big => "big",
     };
-    io::print_decimal(STDOUT_FILENO, t.packed);
-    io::write_all(STDOUT_FILENO, b" places, digest ");
-    io::print_decimal(STDOUT_FILENO, t.digest);
-    io::write_all(STDOUT_FILENO, b"\n");
+    println!(rt;
+        "length {length} {name}: {} places, digest {}",
+        t.packed, t.digest
+    )
 }
 
 fn all_starts(length: usize, order: Order) -> Tally {
@@ -68,7 +66,7 @@ fn one(t: Tally, length: usize, order: Order, start: u32, size: u32) -> Tally {
 fn counted(t: Tally, answer: Packing) -> Tally {
     match answer {
         Packing::Packed => Tally {
-            packed: std::num::wrapping_add_u64(t.packed, 1),
+            packed: t.packed.wrapping_add(1),
             digest: t.digest,
         },
         Packing::Refused => t,
@@ -79,14 +77,10 @@ pub(crate) fn mix(digest: u64, x: u64) -> u64 {
     (digest % 4294967291 * 31 + x % 4294967296) % 4294967291
 }
 
-fn mix_byte(digest: u64, b: u8) -> u64 {
-    mix(digest, b as u64)
-}
-
 fn mix_frame(digest: u64, frame: &[u8; 9]) -> u64 {
     let mut d = digest;
-    for i in 0..9 {
-        d = mix_byte(d, frame[i]);
+    for b in frame {
+        d = mix(d, u64::from(*b));
     }
     d
 }

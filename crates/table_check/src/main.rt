@@ -1,30 +1,36 @@
 // Reads a table on standard input and prints one line: `ok I O` with its counts, or `bad PLACE`.
 #![tactic(auto)]
 
-use libc::{STDIN_FILENO, STDOUT_FILENO};
+ghost use Rattle.std.specs.Prelude.{◌≤◌, length};
+
+use std::io::Read;
 use table::Verdict;
 
 // One byte more than the largest table: whatever is longer is a wrong header, as that much of it is.
 const ROOM: usize = table::LARGEST + 1;
 
-fn main() {
+// A line that can't be written is lost.
+fn main(rt: HostRuntime) {
     let mut buffer = [0u8; ROOM];
-    let n = io::read_full(STDIN_FILENO, &mut buffer);
+    let n = read_full(&mut rt.stdin(), &mut buffer);
     let verdict = table::check(&buffer[..n]);
-    match verdict {
-        Verdict::Accepted(c) => {
-            io::write_all(STDOUT_FILENO, b"ok ");
-            io::print_decimal(STDOUT_FILENO, c.ipdus as u64);
-            io::write_all(STDOUT_FILENO, b" ");
-            io::print_decimal(STDOUT_FILENO, c.objects as u64);
-            io::write_all(STDOUT_FILENO, b"\n");
-        }
-        _ => print_bad(table::place_of(verdict)),
-    }
+    let _ = match verdict {
+        Verdict::Accepted(c) => println!(rt; "ok {} {}", c.ipdus, c.objects),
+        _ => println!(rt; "bad {}", table::place_of(verdict)),
+    };
 }
 
-fn print_bad(place: u64) {
-    io::write_all(STDOUT_FILENO, b"bad ");
-    io::print_decimal(STDOUT_FILENO, place);
-    io::write_all(STDOUT_FILENO, b"\n");
+// Reads until `bytes` is full, the input ends or a read fails.
+fn read_full(input: &mut impl Read, bytes: &mut [u8]) -> usize
+    ensures { result ≤ length bytes.new }
+{
+    let mut done = 0;
+    while done < bytes.len() {
+        let got = input.read(&mut bytes[done..]).unwrap_or(0);
+        if got == 0 {
+            break;
+        }
+        done += got;
+    }
+    done
 }
