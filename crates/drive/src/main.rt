@@ -5,7 +5,7 @@ mod running;
 
 use std::env::{Env, FillError};
 
-// A buffer for an argument. It holds any path; an argument that is longer counts as an empty one.
+// The size of the buffer for an argument: it holds any path. A longer argument counts as an empty one.
 const ARGUMENT_SIZE: usize = 4096;
 
 const USAGE: &str = "usage: drive TABLE SCRIPT

@@ -11,7 +11,7 @@ use std::io::{Cursor, Error, ErrorKind, Read, Write};
 use std::rt::Files;
 use std::{io, str};
 
-// std ends what it says of a system's error with this and the error's number.
+// std puts this behind the words of a system error, and then its number.
 const BEFORE_NUMBER: &str = " (os error ";
 
 // Whether a file could be read, and how many bytes of it.
@@ -46,7 +46,7 @@ fn read_some<R: Files>(rt: &R, path: &[u8], bytes: &mut [u8]) -> io::Result<usiz
     fill(&mut file, bytes)
 }
 
-// Opens a file to read it. std takes a path only as text.
+// Opens a file to read it. A path that is not UTF-8 is refused, since std takes a path only as text.
 pub fn open<R: Files>(rt: &R, path: &[u8]) -> io::Result<R::File> {
     match str::from_utf8(path) {
         Ok(text) => File::open(rt, text),
@@ -71,7 +71,7 @@ fn fill<R: Read>(reader: &mut R, bytes: &mut [u8]) -> io::Result<usize>
     Ok(done)
 }
 
-// Says on standard error that a file can't be read: its path, and the system's words for the error.
+// Says on standard error that a file can't be read: its path, and the words of the error.
 pub fn fail(stderr: &impl Print, path: &[u8], error: &Error) {
     let mut text = Cursor::new([0u8; 128]);
     let _ = write!(text, "{error}");
@@ -82,7 +82,7 @@ pub fn fail(stderr: &impl Print, path: &[u8], error: &Error) {
     let _ = stderr.write_all(b"\n");
 }
 
-// The words of an error before its number, which only an error of the system has, and before zeros.
+// The words of an error, without the number behind a system error's and without zeros.
 fn words(said: &str) -> &str
     ensures { StartsWith said.now result.now }
 {

@@ -1,4 +1,4 @@
-// Document 01's cases 1 to 5 and W-207's examples, as the library answers them.
+// Worked examples, as the library answers them: messages packed and unpacked, places with and without room, and signed messages.
 use bits::{BitSize, ByteLength, Order, Packing, Unpacking};
 use std::io;
 

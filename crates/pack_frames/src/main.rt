@@ -1,5 +1,4 @@
-// Packs and prints frames: document 01's cases 1 to 5, then every place in frames of 0 to 9 bytes and readings that overlap,
-// as digests.
+// Packs and prints frames: worked examples, then every place in frames of 0 to 9 bytes and readings that overlap, as digests.
 // tests/packing.py works the same output out by itself.
 #![tactic(auto)]
 
