@@ -13,6 +13,7 @@ const ROOM: usize = table::LARGEST + 1;
 // The size of a part of the script, and of the buffer for what it prints.
 const PART_SIZE: usize = 65536;
 
+// Of the first file that can't be read standard error says so, and the run ends there.
 pub(crate) fn run<R: Files + Print>(rt: &R, stderr: &impl Print, table: &[u8], script: &[u8]) {
     let mut bytes = [0u8; ROOM];
     let filled = files::read_whole(rt, stderr, table, &mut bytes);
@@ -24,6 +25,7 @@ pub(crate) fn run<R: Files + Print>(rt: &R, stderr: &impl Print, table: &[u8], s
     }
 }
 
+// Runs the whole script, and writes what its end prints. What was printed before a failed read stays.
 fn run_script<R: Files + Print>(rt: &R, t: &[u8], path: &[u8]) -> io::Result<()> {
     let mut script = files::open(rt, path)?;
     let mut memory = [0xa5u8; MEMORY_SIZE];
