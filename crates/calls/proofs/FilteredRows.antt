@@ -1,13 +1,6 @@
 -- A call that filters a value of an object: what it leaves of the object's row.
 -- Assumes nothing.
-use mathlib.Core.Bool.{Bool, true, false}
-use mathlib.Core.List.{List}
-use mathlib.Core.Path.{◌≡◌, refl, ◌∙◌}
-use Prim.Native.Nat.{ℕ, ◌+◌, ◌^◌, ◌<◌}
-use native.Mathlib.Omega.{arith}
-use borrow.Author.Tests.{eq-eqb, ne_eqb}
-use lib.Dec.{ltb, eqb}
-use lib.ListN.{length}
+use Rattle.std.proofs.Common.{Bool, true, false, List, ◌≡◌, refl, ◌∙◌, ℕ, ◌+◌, ◌^◌, ◌<◌, arith, eq-eqb, ne_eqb, ltb, eqb, length}
 use Rattle.memory.specs.Bytes.{Bytes, replaced}
 use Rattle.memory.proofs.Search.{picked}
 use Rattle.filter.specs.Filters.{next_count}

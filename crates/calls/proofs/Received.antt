@@ -1,12 +1,6 @@
 -- What a receive of a queued object gives where a value waits.
 -- Assumes nothing.
-use mathlib.Core.Bool.{true, false}
-use mathlib.Core.List.{List, []}
-use mathlib.Core.Logic.{◌⊎◌, inl, inr, ⊎_elim}
-use mathlib.Core.Path.{◌≡◌, refl}
-use Prim.Native.Nat.{ℕ}
-use borrow.Author.Tests.{ne_eqb}
-use lib.Dec.{eqb}
+use Rattle.std.proofs.Common.{true, false, List, [], ◌⊎◌, inl, inr, ⊎_elim, ◌≡◌, refl, ℕ, ne_eqb, eqb}
 use Rattle.memory.proofs.Tests.{true_or_false}
 use Rattle.table.specs.declared.Counts.{Counts}
 use Rattle.table.specs.Records.{receiving, object_record}

@@ -1,13 +1,7 @@
 -- Numbers that were checked exist: what the record of such an object or I-PDU gives.
 -- Assumes nothing.
-use mathlib.Core.Bool.{true, false, not, ◌&&◌}
-use mathlib.Core.List.{List}
-use mathlib.Core.Logic.{⊎_elim}
-use mathlib.Core.Path.{◌≡◌}
-use Prim.Native.Nat.{ℕ, ◌≤◌, ◌<◌}
-use native.Mathlib.Omega.{arith}
-use borrow.Author.Tests.{ltb-true, eqb-true, not-true}
-use lib.Dec.{ltb, eqb}
+use Rattle.std.proofs.Common.{true, false, not, ◌&&◌, List, ⊎_elim, ◌≡◌, ℕ, ◌≤◌, ◌<◌, arith, ltb-true, eqb-true, ltb, eqb}
+use borrow.Author.Tests.{not-true}
 use Rattle.memory.proofs.Tests.{and_split, true_or_false}
 use Rattle.table.specs.declared.Counts.{Counts}
 use Rattle.config.specs.declared.Direction.{Direction}

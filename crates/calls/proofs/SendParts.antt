@@ -1,11 +1,6 @@
 -- The bits of an object of a right table, and a send step by step: internal delivery, the filter, then packing and the request.
 -- Assumes nothing.
-use mathlib.Core.Bool.{Bool, true, false}
-use mathlib.Core.List.{List}
-use mathlib.Core.Path.{◌≡◌, ap}
-use Prim.Native.Nat.{ℕ, ◌^◌, ◌<◌}
-use native.Mathlib.Omega.{arith}
-use lib.Dec.{eqb}
+use Rattle.std.proofs.Common.{Bool, true, false, List, ◌≡◌, ap, ℕ, ◌^◌, ◌<◌, arith, eqb}
 use Rattle.memory.specs.Search.{pick}
 use Rattle.bits.proofs.Places.{position_twice}
 use Rattle.table.specs.declared.Counts.{Counts}

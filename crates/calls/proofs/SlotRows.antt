@@ -1,13 +1,7 @@
 -- What packing and a request leave of working memory, and what a hand-over leaves of the area.
 -- Assumes nothing.
-use mathlib.Core.Bool.{false}
-use mathlib.Core.List.{List, ◌++◌}
-use mathlib.Core.Logic.{◌⊎◌, inl, inr, ⊎_elim}
-use mathlib.Core.Path.{◌≡◌, refl, sym, ap, ◌∙◌}
-use Prim.Native.Nat.{ℕ, ◌+◌, ◌-◌, ◌*◌, ◌≤◌, ◌<◌}
-use native.Mathlib.Omega.{arith}
-use lib.Dec.{eqb}
-use lib.ListN.{length, take, replicate, length-append, length-replicate}
+use Rattle.std.proofs.Common.{false, List, ◌++◌, ◌⊎◌, inl, inr, ⊎_elim, ◌≡◌, refl, sym, ap, ◌∙◌, ℕ, ◌+◌, ◌-◌, ◌*◌, ◌≤◌, ◌<◌, arith, eqb, length, take, replicate, length-append}
+use lib.ListN.{length-replicate}
 use lib.Seq.{take-append_seam}
 use Rattle.memory.specs.Bytes.{Bytes, value, part, number_at, replaced}
 use Rattle.memory.proofs.Parts.{part_apart, part_replaced, part_length, part_front, replaced_length, replaced_bytes}
@@ -21,7 +15,7 @@ use Rattle.state.specs.Layout.{area_size, running_at, slots, object_rows, slot_a
 use Rattle.state.proofs.RowLaws.{ipdu_part, object_read}
 use Rattle.message.specs.Objects.{Placed, start_bit, pack}
 use Rattle.message.proofs.ObjectsInRange.{pack_room, packed_slot_length}
-use Rattle.transmission.specs.Requests.{ipdu, copied_to_area}
+use Rattle.transmission.specs.Requests.{copied_to_area}
 use Rattle.calls.specs.Answers.{Outcome}
 use Rattle.calls.specs.Calls.{wants, request}
 use Rattle.calls.proofs.Records.{wants_some}

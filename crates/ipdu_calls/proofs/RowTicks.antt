@@ -1,11 +1,6 @@
 -- Ticks that mark nothing: the words of those requested and of those whose time ran out, the length of memory, one I-PDU more, and what the
 -- steps of one I-PDU give. Assumes nothing.
-use mathlib.Core.List.{List, []}
-use mathlib.Core.Path.{◌≡◌, sym, ap, ◌∙◌}
-use Prim.Native.Nat.{ℕ, zero, suc, ◌+◌, ◌^◌, ◌≤◌, ◌<◌}
-use native.Mathlib.Numerals.{add-one}
-use native.Mathlib.Omega.{arith}
-use lib.ListN.{length}
+use Rattle.std.proofs.Common.{List, [], ◌≡◌, sym, ap, ◌∙◌, ℕ, zero, suc, ◌+◌, ◌^◌, ◌≤◌, ◌<◌, add-one, arith, length}
 use Rattle.memory.specs.Search.{pick}
 use Rattle.memory.proofs.Search.{fold_keeps, turn_more}
 use Rattle.config.specs.declared.Direction.{Direction}

@@ -1,11 +1,7 @@
 -- What a start writes, step by step, whatever was there. The laws ask for plain values, so that a search finds them.
 -- Assumes nothing.
-use mathlib.Core.List.{List}
-use mathlib.Core.Path.{◌≡◌, ◌∙◌}
-use Prim.Native.Nat.{ℕ, ◌+◌, ◌^◌, ◌≤◌, ◌<◌}
+use Rattle.std.proofs.Common.{List, ◌≡◌, ◌∙◌, ℕ, ◌+◌, ◌^◌, ◌≤◌, ◌<◌, arith, length, replicate}
 use native.Mathlib.Numerals.{unary_clauses}
-use native.Mathlib.Omega.{arith}
-use lib.ListN.{length, replicate}
 use Rattle.memory.specs.Bytes.{bytes_of, replaced}
 use Rattle.memory.specs.Search.{fold}
 use Rattle.memory.proofs.Search.{turn_more}

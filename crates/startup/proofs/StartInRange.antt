@@ -1,15 +1,7 @@
 -- A start leaves every stored number in its range.
 -- Assumes nothing.
-use mathlib.Core.Bool.{Bool, true, false}
-use mathlib.Core.List.{List}
-use mathlib.Core.Logic.{inl, ⊎_elim}
-use mathlib.Core.Path.{◌≡◌, refl, ap, ◌∙◌}
-use Prim.Native.Nat.{ℕ, zero, suc, ◌+◌, ◌^◌, ◌≤◌, ◌<◌, max}
-use native.Mathlib.Nat.{not-suc-le-zero}
-use native.Mathlib.Omega.{arith}
-use borrow.Author.Rules.{rules}
-use lib.Dec.{eqb}
-use lib.ListN.{length, get_or, replicate, length-replicate, get_or-replicate, get_or-eq_default}
+use Rattle.std.proofs.Common.{Bool, true, false, List, inl, ⊎_elim, ◌≡◌, refl, ap, ◌∙◌, ℕ, zero, suc, ◌+◌, ◌^◌, ◌≤◌, ◌<◌, max, not-suc-le-zero, arith, rules, eqb, length, get_or, replicate}
+use lib.ListN.{length-replicate, get_or-replicate, get_or-eq_default}
 use Rattle.memory.specs.Bytes.{Bytes, value, number_at, part}
 use Rattle.memory.specs.Search.{pick, fold}
 use Rattle.memory.proofs.Parts.{number_one, number_lt}
