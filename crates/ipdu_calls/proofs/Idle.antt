@@ -1,6 +1,6 @@
 -- An I-PDU with nothing to do in a tick: its row stays as it is, it is not requested, and no time of it runs out.
 -- Assumes nothing.
-use Rattle.std.proofs.Common.{true, false, ◌&&◌, List, [], ◌∷◌, ◌≡◌, sym, ap, ℕ, ◌-◌, ◌≤◌, ◌<◌, arith, eqb-true, eqb, length, not}
+use Rattle.std.proofs.Common.{true, false, ◌&&◌, List, [], ◌∷◌, ◌≡◌, sym, ap, ℕ, ◌-◌, ◌≤◌, ◌<◌, arith, eqb-true, eqb, length}
 use Rattle.memory.specs.Bytes.{Bytes}
 use Rattle.memory.specs.Search.{pick}
 use Rattle.memory.proofs.Tests.{each_true}

@@ -1,10 +1,9 @@
 -- `calls::frames::confirm`: an I-PDU that was found and has an open request is closed, then its objects are marked.
 -- Assumes nothing.
-use Rattle.std.proofs.Common.{rules, not}
+use Rattle.std.proofs.Common.{rules}
 use Rattle.calls.specs.Calls.{confirm_in}
 use Rattle.memory.proofs.Tests.{not_found}
 use Rattle.calls.proofs.Outcomes.{found_ipdu_row, found_ipdu_record, found_ipdu_number, not_requested, confirms}
-
 use Rattle.ipdu_calls.proofs.frames.confirm.Goals as goal
 
 pub returns-then-not-is_ipdu : goal.returns-then-not-is_ipdu

@@ -3,7 +3,6 @@
 use Rattle.std.proofs.Common.{rules}
 use Rattle.memory.specs.Bytes.{Bytes}
 use Rattle.calls.proofs.Outcomes.{wrong_length, frame_fits, frame_few, copied_ready, frame_taken}
-
 use Rattle.ipdu_calls.proofs.frames.good_indication.Goals as goal
 
 pub returns-then-bytes-size : goal.returns-then-bytes-size

@@ -1,10 +1,9 @@
 -- `calls::frames::indication`: an I-PDU that was found takes the bytes over, or marks its objects.
 -- Assumes nothing.
-use Rattle.std.proofs.Common.{rules, not}
+use Rattle.std.proofs.Common.{rules}
 use Rattle.calls.specs.Calls.{indication_in}
 use Rattle.memory.proofs.Tests.{not_found}
 use Rattle.calls.proofs.Outcomes.{found_ipdu, indicates_bad, indicates_good}
-
 use Rattle.ipdu_calls.proofs.frames.indication.Goals as goal
 
 pub returns-then-not-is_ipdu : goal.returns-then-not-is_ipdu

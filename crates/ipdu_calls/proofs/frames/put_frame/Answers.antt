@@ -1,8 +1,7 @@
 -- `ipdu_calls::frames::put_frame`: the bytes passed are stored, one after the other (`stored_more`), and there are no more than eight.
 -- Assumes nothing.
-use Rattle.std.proofs.Common.{◌-◌, ◌≤◌, arith, rules, length, false}
+use Rattle.std.proofs.Common.{◌≤◌, arith, rules, length}
 use Rattle.memory.proofs.Parts.{stored_more, stored_all}
-
 use Rattle.ipdu_calls.proofs.frames.put_frame.Goals as goal
 
 pub returns-then-n-i : goal.returns-then-n-i

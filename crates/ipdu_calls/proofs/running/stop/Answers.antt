@@ -2,7 +2,6 @@
 -- Assumes nothing.
 use Rattle.state.specs.Layout.{with_running}
 use Rattle.calls.specs.Calls.{stop_in}
-
 use Rattle.ipdu_calls.proofs.running.stop.Goals as goal
 
 pub returns : goal.returns

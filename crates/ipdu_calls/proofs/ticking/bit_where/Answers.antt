@@ -1,8 +1,7 @@
 -- `ipdu_calls::ticking::bit_where`: two to the number of the I-PDU is its bit, which a word has room for.
 -- Assumes nothing.
-use Rattle.std.proofs.Common.{rules, true}
+use Rattle.std.proofs.Common.{rules}
 use lib.Pow.{pow-lt}
-
 use Rattle.ipdu_calls.proofs.ticking.bit_where.Goals as goal
 
 pub overflow_cast-result : goal.overflow_cast-result

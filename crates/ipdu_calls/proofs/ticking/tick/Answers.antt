@@ -1,10 +1,9 @@
 -- `ipdu_calls::ticking::tick`: the invariant is what the I-PDUs passed gave with nothing marked; marks last come to the definition.
 -- Assumes nothing.
-use Rattle.std.proofs.Common.{rules, refl, ◌-◌, arith}
+use Rattle.std.proofs.Common.{rules, refl, arith}
 use Rattle.calls.proofs.Ticks.{ipdu_few}
 use Rattle.ipdu_calls.proofs.RowTicks.{row_word_more, row_word_fits, due_word_more, due_word_fits, row_more, due_more}
 use Rattle.ipdu_calls.proofs.MarkedOnce.{ticked_marked, ticked_unmarked}
-
 use Rattle.ipdu_calls.proofs.ticking.tick.Goals as goal
 
 pub loop-k-init : goal.loop-k-init
@@ -20,16 +19,15 @@ pub overflow_add-due : goal.overflow_add-due
 overflow_add-due c = record { fits = search (rules, due_word_fits) }
 
 pub loop-k-preserved : goal.loop-k-preserved
-loop-k-preserved c =
-    (
-      search rules,
-      search (rules, row_more),
-      search (rules, due_more),
-      search (rules, row_word_more),
-      search (rules, due_word_more),
-      search rules,
-      search rules,
-    )
+loop-k-preserved c = (
+  search rules,
+  search (rules, row_more),
+  search (rules, due_more),
+  search (rules, row_word_more),
+  search (rules, due_word_more),
+  search rules,
+  search rules,
+)
 
 pub returns-then-due-ne0 : goal.returns-then-due-ne0
 returns-then-due-ne0 c = search (rules, ticked_marked)

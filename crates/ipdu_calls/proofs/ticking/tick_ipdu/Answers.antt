@@ -2,7 +2,6 @@
 -- Assumes nothing.
 use Rattle.std.proofs.Common.{rules}
 use Rattle.ipdu_calls.proofs.RowTicks.{row_sends, row_receives, due_sends, due_receives, few_bytes}
-
 use Rattle.ipdu_calls.proofs.ticking.tick_ipdu.Goals as goal
 
 pub tick_send-requires : goal.tick_send-requires

@@ -3,7 +3,6 @@
 use Rattle.std.proofs.Common.{rules}
 use Rattle.memory.specs.Bytes.{Bytes}
 use Rattle.ipdu_calls.proofs.Idle.{receive_idle, receive_none_due}
-
 use Rattle.ipdu_calls.proofs.ticking.tick_receive.Goals as goal
 
 pub returns-then-s-eq0 : goal.returns-then-s-eq0
