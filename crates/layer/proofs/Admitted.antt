@@ -1,14 +1,7 @@
 -- Admission: what an admitted call may rely on, and what a call leaves, admitted or refused. The laws ask for plain values, so that a
 -- search finds them. Assumes nothing.
-use mathlib.Core.Bool.{Bool, true, false, not, ◌&&◌}
-use mathlib.Core.List.{List, ◌++◌}
-use mathlib.Core.Path.{◌≡◌, refl, sym, ap, ◌∙◌}
-use Prim.Native.Nat.{ℕ, ◌≤◌}
-use native.Mathlib.Omega.{arith}
-use borrow.Author.Tests.{leb-true, not-true, not-false}
-use lib.Dec.{leb, eqb}
-use lib.ListN.{length, drop, take-append-drop}
-use lib.Seq.{length-take-le, take-append_seam}
+use Rattle.std.proofs.Common.{Bool, true, false, ◌&&◌, List, ◌++◌, ◌≡◌, refl, sym, ap, ◌∙◌, ℕ, ◌≤◌, arith, leb-true, leb, eqb, length, drop, take-append-drop, length-take-le}
+use lib.Seq.{take-append_seam}
 use Rattle.memory.specs.Bytes.{Bytes, part}
 use Rattle.memory.proofs.Parts.{part_bytes}
 use Rattle.memory.proofs.Search.{picked}
@@ -92,13 +85,13 @@ admits_refused {t} {m} {fits} {a} e = record { same = e; opens = λ c f. absurd 
 -- ---- memory and area long enough, or not
 
 module _ (t : List ℕ) (c : Counts) (m : List ℕ) (fits : Bool) where
-  pub memory_short : not (leb memory_size (length m) && fits) ≡ true → Refused WrongMemory ≡ admission_of (Accepted c) t m fits
-  memory_short e = rw (not-true (leb memory_size (length m) && fits) e)
+  pub memory_short : (leb memory_size (length m) && fits) ≡ false → Refused WrongMemory ≡ admission_of (Accepted c) t m fits
+  memory_short e = rw e
 
-  pub memory_long : (a : Admission) → not (leb memory_size (length m) && fits) ≡ false → a ≡ admission_front c t (working_memory m) → a ≡ admission_of (Accepted c) t m fits
-  memory_long a e does = rw (not-false (leb memory_size (length m) && fits) e) does
+  pub memory_long : (a : Admission) → (leb memory_size (length m) && fits) ≡ true → a ≡ admission_front c t (working_memory m) → a ≡ admission_of (Accepted c) t m fits
+  memory_long a e does = rw e does
 
-pub memory_enough : (m : List ℕ) (fits : Bool) → not (leb memory_size (length m) && fits) ≡ false → memory_size ≤ length m
+pub memory_enough : (m : List ℕ) (fits : Bool) → (leb memory_size (length m) && fits) ≡ true → memory_size ≤ length m
 memory_enough m fits e = leb-true _ _ (and_split (leb memory_size (length m)) fits (e)).0
 
 module _ (m : List ℕ) (long : memory_size ≤ length m) where

@@ -1,13 +1,6 @@
 -- A call that is not refused before it looks at its own numbers: the table is right, memory in range and the layer runs. The laws of the calls
 -- about one object ask for plain values, so that a search finds them. Assumes nothing.
-use mathlib.Core.Bool.{Bool, true, false, ◌&&◌}
-use mathlib.Core.List.{List, [], ◌++◌}
-use mathlib.Core.Path.{◌≡◌, refl, sym, ap, ◌∙◌}
-use Prim.Native.Nat.{ℕ, ◌≤◌, ◌<◌}
-use native.Mathlib.Omega.{arith}
-use lib.Dec.{leb, eqb}
-use lib.ListN.{length, drop}
-use Rattle.memory.specs.Bytes.{Bytes}
+use Rattle.std.proofs.Common.{Bool, true, false, List, ◌++◌, ◌≡◌, refl, sym, ap, ◌∙◌, ℕ, ◌≤◌, ◌<◌, arith, leb, eqb, length, drop}
 use Rattle.memory.proofs.Tests.{and_false, true_not_false}
 use Rattle.table.specs.declared.Counts.{Counts}
 use Rattle.table.specs.declared.Verdict.TheVariants.{Accepted}
@@ -17,7 +10,7 @@ use Rattle.table.proofs.Accepted.{accepted_right}
 use Rattle.state.specs.Layout.{memory_size, running_at}
 use Rattle.state.specs.Ranges.{Ready}
 use Rattle.calls.specs.declared.Answer.{Answer}
-use Rattle.calls.specs.Answers.{Outcome, outcome, number_of, value_of}
+use Rattle.calls.specs.Answers.{outcome, number_of, value_of}
 use Rattle.layer.specs.declared.Admission.{Admission}
 use Rattle.layer.specs.declared.Admission.TheVariants.{Admitted, Refused}
 use Rattle.layer.specs.declared.Reply.{Reply}

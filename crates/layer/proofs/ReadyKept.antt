@@ -1,12 +1,6 @@
 -- A start leaves every stored number in its range, each call keeps them there, and so does a step over any lent memory.
 -- Assumes: the table was accepted and holds bytes, a value that is told has 32 bits, and an indication is lent bytes.
-use mathlib.Core.Bool.{true, false, ◌&&◌}
-use mathlib.Core.List.{List, ◌++◌}
-use mathlib.Core.Path.{◌≡◌, refl}
-use Prim.Native.Nat.{ℕ, ◌^◌, ◌≤◌, ◌<◌}
-use native.Mathlib.Omega.{arith}
-use lib.Dec.{leb, eqb}
-use lib.ListN.{length, drop, length-append}
+use Rattle.std.proofs.Common.{true, false, ◌&&◌, List, ◌++◌, ◌≡◌, refl, ℕ, ◌^◌, ◌≤◌, ◌<◌, arith, leb, eqb, length, drop, length-append}
 use Rattle.memory.specs.Bytes.{Bytes}
 use Rattle.memory.proofs.Search.{picked}
 use Rattle.table.specs.declared.Counts.{Counts}

@@ -1,10 +1,6 @@
 -- A start by the verdict on the table, and by the length of memory. The laws ask for plain values, so that a search finds them.
 -- Assumes nothing.
-use mathlib.Core.List.{List, [], ◌++◌}
-use mathlib.Core.Path.{◌≡◌, sym, ◌∙◌}
-use Prim.Native.Nat.{ℕ, ◌+◌, ◌≤◌}
-use borrow.Author.Tests.{le-leb}
-use lib.ListN.{length, drop}
+use Rattle.std.proofs.Common.{List, [], ◌++◌, ◌≡◌, sym, ◌∙◌, ℕ, ◌≤◌, le-leb, length, drop}
 use Rattle.table.specs.declared.Counts.{Counts}
 use Rattle.table.specs.declared.Verdict.{Verdict}
 use Rattle.table.specs.declared.Verdict.TheVariants.{Accepted}

@@ -1,12 +1,6 @@
 -- A call over bytes leaves bytes, admitted or refused.
 -- Assumes: a value that is told has 32 bits, and an indication is lent bytes (`Typed`).
-use mathlib.Core.Bool.{Bool, true, false}
-use mathlib.Core.List.{List, [], ◌++◌}
-use mathlib.Core.Path.{◌≡◌, refl}
-use Prim.Native.Nat.{ℕ, ◌+◌, ◌^◌, ◌<◌}
-use lib.Dec.{leb}
-use lib.ListN.{length, drop}
-use lib.Seq.{get_or-drop}
+use Rattle.std.proofs.Common.{Bool, true, List, [], ◌++◌, ◌≡◌, refl, ℕ, ◌+◌, ◌^◌, ◌<◌, leb, length, drop, get_or-drop}
 use Rattle.memory.specs.Bytes.{Bytes}
 use Rattle.memory.proofs.Parts.{append_bytes}
 use Rattle.memory.proofs.Search.{picked}

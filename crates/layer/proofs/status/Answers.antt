@@ -1,0 +1,22 @@
+-- `layer::status`: admitted, table and memory are what the inner call asks for; refused, all bytes stay.
+-- Assumes nothing.
+use Rattle.std.proofs.Common.{rules}
+use Rattle.layer.specs.Step.{step}
+use Rattle.layer.proofs.Admitted.{admitted_exact, admitted_ready, admitted_reads, refused_gives}
+use Rattle.layer.proofs.status.Goals as goal
+
+pub slice_bounds-status-end : goal.slice_bounds-status-end
+unfolding step
+slice_bounds-status-end c = search (rules, admitted_exact)
+
+pub status-requires : goal.status-requires
+unfolding step
+status-requires c = search (rules, admitted_ready)
+
+pub returns-in-Admitted : goal.returns-in-Admitted
+unfolding step
+returns-in-Admitted c = search (rules, admitted_reads)
+
+pub returns-in-Refused : goal.returns-in-Refused
+unfolding step
+returns-in-Refused c = search (rules, refused_gives)
