@@ -7,10 +7,10 @@ use Rattle.calls.specs.declared.Answer as calls
 use Rattle.calls.specs.Answers.{Outcome, outcome, number_of, value_of}
 use Rattle.group.specs.Groups.{GroupOutcome, group_outcome}
 use Rattle.exports.specs.declared.Answer.{Answer}
-use Rattle.exports.specs.Results.{result, result_of, group_result, group_result_of}
+use Rattle.exports.specs.Results.{call_result, result_of, group_result, group_result_of}
 
 pub forwards : (a : calls.Answer) {r : Answer} (m area : List ℕ) (o : Outcome) → r ≡ record { number = number_of a; value = value_of a }
-    → outcome a m area ≡ o → result r m area ≡ result_of o
+    → outcome a m area ≡ o → call_result r m area ≡ result_of o
 forwards a m area o e f = rw e (ap result_of f)
 
 pub forwards_group : (a : calls.Answer) {r : Answer} (m area statuses : List ℕ) (o : GroupOutcome) → r ≡ record { number = number_of a; value = value_of a }

@@ -10,12 +10,12 @@ pub record Result : Type 0 where
   pub memory : List ℕ
   pub area : List ℕ
 
-abbrev pub result : Answer → List ℕ → List ℕ → Result
-result a m area = record { answer = a; memory = m; area = area }
+abbrev pub call_result : Answer → List ℕ → List ℕ → Result
+call_result a m area = record { answer = a; memory = m; area = area }
 
 -- the outcome of a call
 abbrev pub result_of : Outcome → Result
-result_of o = result (record { number = number_of o.answer; value = value_of o.answer }) o.memory o.area
+result_of o = call_result (record { number = number_of o.answer; value = value_of o.answer }) o.memory o.area
 
 -- a group: its status list too
 pub record GroupResult : Type 0 where
