@@ -1,6 +1,6 @@
 -- Document 01's cases 1 to 11, as one statement over the list of cases, proved by computation from the definitions.
 -- Assumes nothing.
-use mathlib.Core.Path.{refl}
+use Rattle.std.proofs.Common.{refl}
 use Rattle.cases.proofs.Definitions.{definitions, ◌&◌}
 use Rattle.cases.proofs.Computed.{all_hold}
 use Rattle.cases.specs.Case.{AllHold}

@@ -1,5 +1,5 @@
 -- Document 01's rules of the check, proved by computation from the definitions. Assumes nothing.
-use mathlib.Core.Path.{refl}
+use Rattle.std.proofs.Common.{refl}
 use Rattle.cases.proofs.Definitions.{definitions, ◌&◌}
 use Rattle.cases.specs.Case.{AllHold}
 use Rattle.cases.specs.CheckRules.{header_rules, ipdu_rules, object_rules, filter_constant_rules, table_rules}

@@ -1,15 +1,7 @@
 -- A case over calls is computed faster where working memory is exactly as long as what is used of it: nothing is split off and joined
 -- again. Each step looks at the length, so the law asks for nothing. Assumes nothing.
-use mathlib.Core.Bool.{Bool, true, false}
-use mathlib.Core.List.{List, [], ◌∷◌, append-nil}
-use mathlib.Core.Logic.{⊎_elim}
-use mathlib.Core.Path.{◌≡◌, refl, ap, sym, ◌∙◌}
-use Prim.Native.Nat.{ℕ}
-use native.Mathlib.Omega.{arith}
-use borrow.Author.Tests.{eqb-true}
-use lib.Dec.{eqb}
-use lib.ListN.{length, replicate, drop}
-use lib.Seq.{take_all, drop-length}
+use Rattle.std.proofs.Common.{Bool, true, false, List, [], ◌∷◌, append-nil, ⊎_elim, ◌≡◌, refl, ap, sym, ◌∙◌, ℕ, arith, eqb-true, eqb, length, replicate, drop, take_all}
+use lib.Seq.{drop-length}
 use Rattle.memory.specs.Search.{pick}
 use Rattle.memory.proofs.Tests.{true_or_false}
 use Rattle.table.specs.declared.Counts.{Counts}
