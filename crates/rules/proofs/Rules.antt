@@ -1,6 +1,6 @@
 -- The rules of document 01 that its own cases leave open hold: one statement over the list. Each section is computed by itself, since
 -- one declaration may take only so many steps. Assumes nothing.
-use mathlib.Core.List.{List, [], ◌∷◌, ◌++◌}
+use Rattle.std.proofs.Common.{List, [], ◌∷◌, ◌++◌}
 use Rattle.cases.specs.Case.{Case, AllHold}
 use Rattle.rules.specs.Rules.{sections, cases_of, rules}
 use Rattle.cases.proofs.Definitions.{◌&◌}

@@ -1,5 +1,5 @@
 -- Document 01's rules of time, proved by computation from the definitions. Assumes nothing.
-use mathlib.Core.Path.{refl}
+use Rattle.std.proofs.Common.{refl}
 use Rattle.cases.proofs.Definitions.{definitions, ◌&◌}
 use Rattle.cases.proofs.Computed.{all_hold}
 use Rattle.cases.specs.Case.{AllHold}
