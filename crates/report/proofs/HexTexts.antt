@@ -1,12 +1,6 @@
 -- Bytes in hex: one byte more, and how many digits there are.
 -- Assumes nothing.
-use mathlib.Core.List.{List, [], ◌∷◌, ◌++◌}
-use mathlib.Core.Path.{◌≡◌, refl, ap}
-use Prim.Native.Nat.{ℕ, ◌+◌, ◌*◌, ◌/◌, ◌%◌, ◌≤◌, ◌<◌}
-use native.Mathlib.Numerals.{add-one}
-use native.Mathlib.Omega.{arith}
-use lib.ListN.{length, get_or, set, take, drop, length-take, length-drop}
-use lib.Seq.{take-suc, get_or-drop}
+use Rattle.std.proofs.Common.{List, [], ◌∷◌, ◌++◌, ◌≡◌, refl, ap, ℕ, ◌+◌, ◌*◌, ◌/◌, ◌%◌, ◌≤◌, ◌<◌, add-one, arith, length, get_or, set, take, drop, length-take, length-drop, take-suc, get_or-drop}
 use Rattle.memory.specs.Bytes.{part}
 use Rattle.memory.specs.Texts.{Put}
 use Rattle.memory.proofs.Puts.{put_append, put_none, put_byte, put_one, put_as}

@@ -1,12 +1,6 @@
 -- Texts that are put one behind the other into a buffer. The laws ask for plain values, so that a search finds them.
 -- Assumes nothing.
-use mathlib.Core.Bool.{Bool}
-use mathlib.Core.List.{List, [], ◌∷◌, ◌++◌}
-use mathlib.Core.Path.{◌≡◌}
-use Prim.Native.Nat.{ℕ, suc, ◌+◌, ◌^◌, ◌≤◌, ◌<◌}
-use native.Mathlib.Omega.{arith}
-use lib.IntN.{ℤ, pos, negsuc}
-use lib.ListN.{length, set, length-set}
+use Rattle.std.proofs.Common.{Bool, List, [], ◌∷◌, ◌++◌, ◌≡◌, ℕ, suc, ◌+◌, ◌^◌, ◌≤◌, ◌<◌, arith, ℤ, pos, negsuc, length, set, length-set}
 use Rattle.memory.specs.Texts.{line_feed, digit_of, decimal, number_field, Put}
 use Rattle.memory.specs.Integers.{integer, integer_field}
 use Rattle.memory.proofs.Decimals.{decimal_length}

@@ -1,17 +1,7 @@
 -- The requests that a word names, and how long their texts are. The laws ask for plain values, so that a search finds them.
 -- Assumes nothing.
-use mathlib.Core.Bool.{true, false, ◌&&◌}
-use mathlib.Core.List.{List, [], ◌∷◌, ◌++◌, append-nil}
-use mathlib.Core.Logic.{⊎_elim}
-use mathlib.Core.Path.{◌≡◌, sym, ap, ◌∙◌}
-use Prim.Native.Nat.{ℕ, zero, suc, ◌+◌, ◌-◌, ◌*◌, ◌/◌, ◌%◌, ◌^◌, ◌≤◌, ◌<◌, zero-le}
+use Rattle.std.proofs.Common.{true, false, ◌&&◌, List, [], ◌∷◌, ◌++◌, append-nil, ⊎_elim, ◌≡◌, sym, ap, ◌∙◌, ℕ, zero, suc, ◌+◌, ◌-◌, ◌*◌, ◌/◌, ◌%◌, ◌^◌, ◌≤◌, ◌<◌, zero-le, add-one, arith, ltb-true, ltb-false, lt-ltb, eq-eqb, ne_eqb, ltb, eqb, length, set, length-append, shr-shr}
 use native.Mathlib.Nat.{zero-div}
-use native.Mathlib.Numerals.{add-one}
-use native.Mathlib.Omega.{arith}
-use borrow.Author.Tests.{ltb-true, ltb-false, lt-ltb, eq-eqb, ne_eqb}
-use lib.Dec.{ltb, eqb}
-use lib.ListN.{length, set, length-append}
-use lib.Pow.{shr-shr}
 use Rattle.memory.specs.Bytes.{part}
 use Rattle.memory.specs.Search.{pick}
 use Rattle.memory.specs.Texts.{line_feed, decimal, number_field, Put}

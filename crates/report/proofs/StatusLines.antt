@@ -1,13 +1,6 @@
 -- The line of a call: how it is put, when it is the status alone, and how long it is.
 -- Assumes nothing.
-use mathlib.Core.Bool.{Bool, true, false, ◌||◌}
-use mathlib.Core.List.{List, [], ◌∷◌, ◌++◌}
-use mathlib.Core.Path.{◌≡◌, refl, sym, ◌∙◌}
-use Prim.Native.Nat.{ℕ, ◌+◌, ◌≤◌, zero-le}
-use native.Mathlib.Omega.{arith}
-use borrow.Author.Tests.{ne_eqb}
-use lib.Dec.{eqb}
-use lib.ListN.{length, length-append}
+use Rattle.std.proofs.Common.{Bool, true, false, ◌||◌, List, [], ◌∷◌, ◌++◌, ◌≡◌, refl, sym, ◌∙◌, ℕ, ◌≤◌, zero-le, arith, ne_eqb, eqb, length, length-append}
 use Rattle.memory.specs.Texts.{line_feed, digit_of, Put}
 use Rattle.memory.specs.Integers.{integer, integer_field}
 use Rattle.memory.proofs.Decimals.{decimal_length}
