@@ -1,13 +1,6 @@
 -- The memory that a run begins from is that of a stopped layer with every stored number in its range, and depends on the table alone.
 -- Assumes: the table was accepted and holds bytes, and memory is long enough.
-use mathlib.Core.Bool.{true}
-use mathlib.Core.List.{List, ◌++◌}
-use mathlib.Core.Path.{◌≡◌, ap, ◌∙◌}
-use Prim.Native.Nat.{ℕ, ◌≤◌}
-use native.Mathlib.Omega.{arith}
-use borrow.Author.Tests.{le-leb}
-use lib.Dec.{leb}
-use lib.ListN.{length, drop}
+use Rattle.std.proofs.Common.{true, List, ◌++◌, ◌≡◌, ap, ◌∙◌, ℕ, ◌≤◌, arith, le-leb, length, drop}
 use lib.Seq.{drop-append_seam}
 use Rattle.memory.specs.Bytes.{Bytes}
 use Rattle.table.specs.declared.Counts.{Counts}

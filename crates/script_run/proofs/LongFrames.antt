@@ -1,14 +1,6 @@
 -- Of an indication's bytes more than eight are as good as any other more than eight: the length of an I-PDU is at most 8.
 -- Assumes nothing.
-use mathlib.Core.Bool.{Bool, true, false, ◌&&◌}
-use mathlib.Core.List.{List, []}
-use mathlib.Core.Logic.{⊎_elim}
-use mathlib.Core.Path.{◌≡◌, refl, ap}
-use Prim.Native.Nat.{ℕ, ◌<◌}
-use native.Mathlib.Omega.{arith}
-use borrow.Author.Tests.{ltb-true, ne_eqb}
-use lib.Dec.{ltb, leb, eqb}
-use lib.ListN.{length}
+use Rattle.std.proofs.Common.{Bool, true, false, ◌&&◌, List, [], ⊎_elim, ◌≡◌, refl, ap, ℕ, ◌<◌, arith, ltb-true, ne_eqb, ltb, leb, eqb, length}
 use Rattle.memory.proofs.Search.{picked}
 use Rattle.memory.proofs.Tests.{and_split, true_or_false}
 use Rattle.table.specs.declared.Counts.{Counts}

@@ -1,9 +1,6 @@
 -- What a script prints is the text of `run` over its calls, then the line for the first that can't be read; the memory that it leaves is
 -- that of the calls. Assumes nothing.
-use mathlib.Core.Bool.{Bool, true, false}
-use mathlib.Core.List.{List, [], ◌∷◌, ◌++◌, append_assoc}
-use mathlib.Core.Path.{◌≡◌, refl, sym, ap, ◌∙◌}
-use Prim.Native.Nat.{ℕ, suc}
+use Rattle.std.proofs.Common.{Bool, true, false, List, [], ◌∷◌, ◌++◌, append_assoc, ◌≡◌, refl, sym, ap, ◌∙◌, ℕ, suc}
 use Rattle.calls.specs.Answers.{Outcome}
 use Rattle.layer.specs.Step.{step, run, memory_after}
 use Rattle.report.specs.Printing.{lends, answer_line}
