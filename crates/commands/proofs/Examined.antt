@@ -1,10 +1,5 @@
 -- Table and memory that were found right are `Checked`. Assumes nothing.
-use mathlib.Core.Bool.{Bool, true}
-use mathlib.Core.List.{List}
-use mathlib.Core.Path.{◌≡◌, sym, ◌∙◌}
-use Prim.Native.Nat.{ℕ, ◌≤◌}
-use lib.ListN.{length}
-use lib.Seq.{length-take-le}
+use Rattle.std.proofs.Common.{Bool, true, List, ◌≡◌, sym, ◌∙◌, ℕ, ◌≤◌, length, length-take-le}
 use Rattle.memory.specs.Bytes.{Bytes, part}
 use Rattle.memory.proofs.Parts.{part_bytes}
 use Rattle.table.specs.declared.Counts.{Counts}

@@ -1,11 +1,6 @@
 -- A command's call and its line: started, refused or admitted. The laws ask for plain values, so that a search finds them.
 -- Assumes nothing.
-use mathlib.Core.Bool.{Bool, true, false}
-use mathlib.Core.List.{List, [], ◌∷◌, ◌++◌}
-use mathlib.Core.Path.{◌≡◌, refl, sym, ap, ◌∙◌}
-use Prim.Native.Nat.{ℕ, ◌+◌, ◌≤◌}
-use native.Mathlib.Omega.{arith}
-use lib.ListN.{length, drop}
+use Rattle.std.proofs.Common.{Bool, true, false, List, [], ◌∷◌, ◌++◌, ◌≡◌, refl, sym, ap, ◌∙◌, ℕ, ◌+◌, ◌≤◌, arith, length, drop}
 use Rattle.memory.specs.Texts.{line_feed, digit_of, Put}
 use Rattle.table.specs.declared.Counts.{Counts}
 use Rattle.state.specs.Layout.{memory_size, area_size}

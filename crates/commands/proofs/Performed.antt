@@ -1,16 +1,6 @@
 -- A command's call: what it does itself, admitted or refused. The laws ask for plain values, so that a search finds them.
 -- Assumes nothing.
-use mathlib.Core.Bool.{Bool, true, false, not, ◌&&◌, ◌||◌}
-use mathlib.Core.List.{List, [], ◌∷◌, ◌++◌}
-use mathlib.Core.Path.{◌≡◌, refl, sym, ap, ◌∙◌}
-use Prim.Native.Nat.{ℕ, ◌^◌, ◌≤◌, ◌<◌}
-use native.Mathlib.Omega.{arith}
-use borrow.Author.Tests.{leb-true, le-leb, eq-eqb, ne_eqb, not-true, not-false}
-use denote.Enum.Declared.{tag_of}
-use types.Run.{OneOf, miss}
-use lib.Dec.{leb, eqb}
-use lib.ListN.{length, drop}
-use lib.Seq.{get_or-take}
+use Rattle.std.proofs.Common.{Bool, true, false, not, ◌&&◌, ◌||◌, List, [], ◌∷◌, ◌++◌, ◌≡◌, refl, sym, ap, ◌∙◌, ℕ, ◌^◌, ◌≤◌, ◌<◌, arith, leb-true, le-leb, eq-eqb, ne_eqb, leb, eqb, length, drop, get_or-take}
 use Rattle.memory.specs.Bytes.{Bytes, number_at}
 use Rattle.memory.specs.Search.{pick}
 use Rattle.memory.specs.Texts.{line_feed, digit_of}
@@ -38,7 +28,6 @@ use Rattle.layer.specs.Admission.{Admits, working_memory, admission_of, admissio
 use Rattle.layer.specs.Step.{start, describe, step}
 use Rattle.layer.proofs.Admitted.{admits_refused, working_exact}
 use Rattle.layer.proofs.ReadyKept.{start_ready, WorkingReady, working_ready, step_ready}
-use Rattle.script.specs.contracts.Command.{the_type}
 use Rattle.script.specs.declared.Ask.{Ask}
 use Rattle.script.specs.declared.Ask.TheVariants.{Receive, Status, Marks, ClearMarks}
 use Rattle.script.specs.declared.Command.{Command}
@@ -50,10 +39,10 @@ use Rattle.commands.specs.declared.Ground.TheVariants.{Known, Unknown}
 use Rattle.script_run.specs.Script.{call_of, settled, effect, own}
 use Rattle.commands.specs.Given.{Checked, Holds, is_start}
 
--- ---- a command by its place among the variants
+-- ---- a command that is none of those that an arm names
 
-pub no_start : (command : Command) → OneOf (1 ∷ 2 ∷ 3 ∷ 4 ∷ 5 ∷ 6 ∷ 7 ∷ 8 ∷ []) (tag_of the_type command) → false ≡ is_start command
-no_start Start e = absurd (miss (1 ∷ 2 ∷ 3 ∷ 4 ∷ 5 ∷ 6 ∷ 7 ∷ 8 ∷ []) 0 tt e)
+pub no_start : (command : Command) → (command ≡ Start → ⊥) → false ≡ is_start command
+no_start Start e = absurd (e refl)
 no_start Stop e = refl
 no_start (Send i v) e = refl
 no_start (Initialise i v) e = refl
@@ -63,16 +52,17 @@ no_start (Indication k good) e = refl
 no_start (Confirm k good) e = refl
 no_start Tick e = refl
 
-pub no_area_lem : (command : Command) (fits : Bool) → OneOf (0 ∷ 1 ∷ 3 ∷ 4 ∷ 5 ∷ 6 ∷ 7 ∷ []) (tag_of the_type command) → true ≡ (not (lends command) || fits)
-no_area_lem Start fits e = refl
-no_area_lem Stop fits e = refl
-no_area_lem (Send i v) fits e = absurd (miss (0 ∷ 1 ∷ 3 ∷ 4 ∷ 5 ∷ 6 ∷ 7 ∷ []) 2 tt e)
-no_area_lem (Initialise i v) fits e = refl
-no_area_lem (Object ask i) fits e = refl
-no_area_lem (Periodic on) fits e = refl
-no_area_lem (Indication k good) fits e = refl
-no_area_lem (Confirm k good) fits e = refl
-no_area_lem Tick fits e = absurd (miss (0 ∷ 1 ∷ 3 ∷ 4 ∷ 5 ∷ 6 ∷ 7 ∷ []) 8 tt e)
+pub no_area : (command : Command) (fits : Bool) → ((i : ObjectNumber) (v : ℕ) → command ≡ Send i v → ⊥) → (command ≡ Tick → ⊥)
+    → true ≡ (not (lends command) || fits)
+no_area Start fits send tick = refl
+no_area Stop fits send tick = refl
+no_area (Send i v) fits send tick = absurd (send i v refl)
+no_area (Initialise i v) fits send tick = refl
+no_area (Object ask i) fits send tick = refl
+no_area (Periodic on) fits send tick = refl
+no_area (Indication k good) fits send tick = refl
+no_area (Confirm k good) fits send tick = refl
+no_area Tick fits send tick = absurd (tick refl)
 
 pub started_not : (command : Command) → command ≡ Start → is_start command ≡ false → ⊥
 started_not command told other = let e : true ≡ false = rw told at other in let z : ◌≡◌ {A = ℕ} 0 1 = cc in omega arith
