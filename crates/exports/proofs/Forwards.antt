@@ -1,8 +1,6 @@
 -- A forwarded call: its answer as a number and a value.
 -- Assumes nothing.
-use mathlib.Core.List.{List}
-use mathlib.Core.Path.{◌≡◌, ap}
-use Prim.Native.Nat.{ℕ}
+use Rattle.std.proofs.Common.{List, ◌≡◌, ap, ℕ}
 use Rattle.calls.specs.declared.Answer as calls
 use Rattle.calls.specs.Answers.{Outcome, outcome, number_of, value_of}
 use Rattle.group.specs.Groups.{GroupOutcome, group_outcome}

@@ -1,10 +1,6 @@
 -- The examples of W-202, proved by computation from the definitions; each step is taken as `step_fast` has it.
 -- Assumes nothing.
-use mathlib.Core.List.{List, [], ◌∷◌}
-use mathlib.Core.Path.{◌≡◌, refl, sym, ap, ◌∙◌}
-use Prim.Native.Nat.{ℕ}
-use lib.Dec.{leb}
-use lib.ListN.{length, replicate}
+use Rattle.std.proofs.Common.{List, [], ◌∷◌, ◌≡◌, refl, ap, ◌∙◌, ℕ, leb, length, replicate}
 use Rattle.state.specs.Layout.{memory_size, area_size}
 use Rattle.calls.specs.Answers.{Outcome}
 use Rattle.layer.specs.declared.Admission.{Admission}
