@@ -1,12 +1,7 @@
--- Demand 3 (a) over lists with groups, begins and drains: an action follows the book as the single calls that it stands for do, and each
--- action of a list is kept. The single calls that a list stands for leave the same memory and book.
+-- Demand 3 (a) over lists with groups: a group follows the book as its sends do, and each action of a list is kept. The single calls that a
+-- list stands for leave the same memory and book.
 -- Assumes: the table holds bytes, and arguments are of the types that the calls take (`TypedAction`).
-use mathlib.Core.Bool.{Bool, true, false}
-use mathlib.Core.List.{List, [], ◌∷◌, ◌++◌}
-use mathlib.Core.Logic.{⊎_elim}
-use mathlib.Core.Path.{◌≡◌, refl, sym, ap, ◌∙◌}
-use Prim.Native.Nat.{ℕ}
-use borrow.Author.Tests.{ne_eqb}
+use Rattle.std.proofs.Common.{Bool, true, false, List, [], ◌∷◌, ◌++◌, ⊎_elim, ◌≡◌, refl, sym, ap, ◌∙◌, ℕ, ne_eqb}
 use Rattle.memory.specs.Bytes.{Bytes}
 use Rattle.memory.specs.Search.{pick}
 use Rattle.memory.proofs.Search.{picked}
@@ -18,31 +13,12 @@ use Rattle.calls.specs.Answers.{number_of}
 use Rattle.layer.specs.Step.{Call, step, memory_after}
 use Rattle.group.specs.Groups.{sent, Group, group_step}
 use Rattle.trace.specs.Book.{Book, advance, book_after}
-use Rattle.trace.specs.Actions.{Action, single, group, begin_sheet, drain_sheet, leaves, group_sends, drain_calls, accepts_group, advance_by, stands_for, expanded, memory_after_all, book_after_all}
+use Rattle.trace.specs.Actions.{Action, single, group, leaves, group_sends, accepts_group, advance_by, expanded, memory_after_all, book_after_all}
 use Rattle.trace.specs.Demand3.{AllTyped, TypedAction, ActionsTyped, GroupKept, ActionKept, ActionsKept}
 use Rattle.trace.proofs.FramesInArea.{in_area_none}
 use Rattle.trace.proofs.Steps.{Follows, step_follows, list_follows}
 use Rattle.trace.proofs.KeptLists.{call_kept, list_kept}
-use Rattle.trace.proofs.DrainCalls.{memory_then, drain_about, all_about_typed, all_about_book, drain_memory}
 use Rattle.trace.proofs.GroupSends.{sends_ran, GroupDoes, sends, refuses, group_does}
-
--- ---- the single calls that an action stands for
-
-pub stands_typed : (t : List ℕ) (b : Book) (m : List ℕ) (x : Action) → TypedAction x → AllTyped (stands_for t b x m)
-stands_typed t b m (single call) y = (y, tt)
-stands_typed t b m (group g) y = picked AllTyped (accepts_group b g) (group_sends g) [] (λ e. y) (λ e. tt)
-stands_typed t b m (begin_sheet g) y = tt
-stands_typed t b m (drain_sheet d) y = all_about_typed (drain_calls t d m) (drain_about t d m)
-
-pub stands_book : (t : List ℕ) (c : Counts) (b : Book) (m : List ℕ) (x : Action) → advance_by t c b x ≡ book_after t c b (stands_for t b x m)
-stands_book t c b m (single call) = refl
-stands_book t c b m (group g) = by (accepts_group b g)
-  where
-    by : (went : Bool) → pick went (book_after t c b (group_sends g)) b ≡ book_after t c b (pick went (group_sends g) [])
-    by true = refl
-    by false = refl
-stands_book t c b m (begin_sheet g) = refl
-stands_book t c b m (drain_sheet d) = sym (all_about_book t c (drain_calls t d m) b (drain_about t d m))
 
 module _ (t : List ℕ) (c : Counts) (accepted : check t ≡ Accepted c) (bt : Bytes t) where
   module _ (b : Book) (m : List ℕ) (f : Follows t c b m) where
@@ -56,6 +32,13 @@ module _ (t : List ℕ) (c : Counts) (accepted : check t ≡ Accepted c) (bt : B
           by : GroupDoes t c accepted bt b g m → (group_step t g m).memory ≡ memory_after t (pick (accepts_group b g) (group_sends g) []) m
           by (sends done fits does) = rw (does, done) (sends_ran t c accepted bt g.pairs.list g.area y fits b (sent 0 m g.area []) f refl).memory
           by (refuses a is off does some six none) = rw (does, off)
+
+      group_follows : Follows t c (advance_by t c b (group g)) (group_step t g m).memory
+      group_follows = rw group_memory (by (accepts_group b g))
+        where
+          by : (went : Bool) → Follows t c (pick went (book_after t c b (group_sends g)) b) (memory_after t (pick went (group_sends g) []) m)
+          by true = list_follows t c accepted bt (group_sends g) y b m f
+          by false = f
 
       pub group_kept : GroupKept t c b g m (group_step t g m)
       group_kept = by (group_does t c accepted bt b g m f)
@@ -81,27 +64,15 @@ module _ (t : List ℕ) (c : Counts) (accepted : check t ≡ Accepted c) (bt : B
                 frames = λ k e. absurd (in_area_none k (rw none at e));
               })
 
-    -- ---- an action: it leaves the memory and the book of the single calls that it stands for
-
-    pub stands_memory : (x : Action) → TypedAction x → leaves t x m ≡ memory_after t (stands_for t b x m) m
-    stands_memory (single call) y = refl
-    stands_memory (group g) y = group_memory g y
-    stands_memory (begin_sheet g) y = refl
-    stands_memory (drain_sheet d) y = drain_memory t d m
+    -- ---- an action
 
     pub action_follows : (x : Action) → TypedAction x → Follows t c (advance_by t c b x) (leaves t x m)
-    action_follows x y =
-        rw (stands_memory x y, stands_book t c b m x) (list_follows t c accepted bt (stands_for t b x m) (stands_typed t b m x y) b m f)
+    action_follows (single call) y = step_follows t c accepted bt b m f call y
+    action_follows (group g) y = group_follows g y
 
     action_kept : (x : Action) → TypedAction x → ActionKept t c b x m
     action_kept (single call) y = call_kept t c accepted bt b m f call y
     action_kept (group g) y = group_kept g y
-    action_kept (begin_sheet g) y = tt
-    action_kept (drain_sheet d) y =
-        record {
-          calls = list_kept t c accepted bt (drain_calls t d m) (all_about_typed (drain_calls t d m) (drain_about t d m)) b m f;
-          memory = drain_memory t d m;
-        }
 
   -- ---- a list of actions
 
@@ -116,36 +87,46 @@ module _ (t : List ℕ) (c : Counts) (accepted : check t ≡ Accepted c) (bt : B
     actions_kept xs y.1 (advance_by t c b x) (leaves t x m) (action_follows b m f x y.0),
   )
 
--- ---- the single calls that a list stands for
+-- ---- the single calls that it stands for
 
 both_typed : (xs ys : List Call) → AllTyped xs → AllTyped ys → AllTyped (xs ++ ys)
 both_typed [] ys y z = z
 both_typed (x ∷ xs) ys y z = (y.0, both_typed xs ys y.1 z)
+
+memory_then : (t : List ℕ) (xs ys : List Call) (m : List ℕ) → memory_after t (xs ++ ys) m ≡ memory_after t ys (memory_after t xs m)
+memory_then t [] ys m = refl
+memory_then t (x ∷ xs) ys m = memory_then t xs ys (step t x m).memory
 
 book_then : (t : List ℕ) (c : Counts) (xs ys : List Call) (b : Book) → book_after t c b (xs ++ ys) ≡ book_after t c (book_after t c b xs) ys
 book_then t c [] ys b = refl
 book_then t c (x ∷ xs) ys b = book_then t c xs ys (advance t c b x)
 
 module _ (t : List ℕ) (c : Counts) where
-  pub expanded_typed : (xs : List Action) (b : Book) (m : List ℕ) → ActionsTyped xs → AllTyped (expanded t c b xs m)
-  expanded_typed [] b m y = tt
-  expanded_typed (x ∷ xs) b m y =
-      both_typed (stands_for t b x m) (expanded t c (advance_by t c b x) xs (leaves t x m)) (stands_typed t b m x y.0)
-      (expanded_typed xs (advance_by t c b x) (leaves t x m) y.1)
+  pub expanded_typed : (xs : List Action) (b : Book) → ActionsTyped xs → AllTyped (expanded t c b xs)
+  expanded_typed [] b y = tt
+  expanded_typed (single call ∷ xs) b y = (y.0, expanded_typed xs (advance t c b call) y.1)
+  expanded_typed (group g ∷ xs) b y =
+      both_typed (pick (accepts_group b g) (group_sends g) []) (expanded t c (advance_by t c b (group g)) xs)
+      (picked AllTyped (accepts_group b g) (group_sends g) [] (λ e. y.0) (λ e. tt)) (expanded_typed xs (advance_by t c b (group g)) y.1)
 
-  pub expanded_book : (xs : List Action) (b : Book) (m : List ℕ) → book_after_all t c b xs ≡ book_after t c b (expanded t c b xs m)
-  expanded_book [] b m = refl
-  expanded_book (x ∷ xs) b m =
-      let rest = expanded t c (advance_by t c b x) xs (leaves t x m) in
-      expanded_book xs (advance_by t c b x) (leaves t x m)
-      ∙ ap (λ (d : Book). book_after t c d rest) (stands_book t c b m x)
-      ∙ sym (book_then t c (stands_for t b x m) rest b)
+  pub expanded_book : (xs : List Action) (b : Book) → book_after_all t c b xs ≡ book_after t c b (expanded t c b xs)
+  expanded_book [] b = refl
+  expanded_book (single call ∷ xs) b = expanded_book xs (advance t c b call)
+  expanded_book (group g ∷ xs) b =
+      expanded_book xs (advance_by t c b (group g))
+      ∙ ap (λ (d : Book). book_after t c d (expanded t c (advance_by t c b (group g)) xs)) (by (accepts_group b g))
+      ∙ sym (book_then t c (pick (accepts_group b g) (group_sends g) []) (expanded t c (advance_by t c b (group g)) xs) b)
+    where
+      by : (went : Bool) → pick went (book_after t c b (group_sends g)) b ≡ book_after t c b (pick went (group_sends g) [])
+      by true = refl
+      by false = refl
 
   module _ (accepted : check t ≡ Accepted c) (bt : Bytes t) where
-    pub expanded_memory : (xs : List Action) → ActionsTyped xs → (b : Book) (m : List ℕ) → Follows t c b m → memory_after_all t xs m ≡ memory_after t (expanded t c b xs m) m
+    pub expanded_memory : (xs : List Action) → ActionsTyped xs → (b : Book) (m : List ℕ) → Follows t c b m → memory_after_all t xs m ≡ memory_after t (expanded t c b xs) m
     expanded_memory [] y b m f = refl
-    expanded_memory (x ∷ xs) y b m f =
-        let rest = expanded t c (advance_by t c b x) xs (leaves t x m) in
-        expanded_memory xs y.1 (advance_by t c b x) (leaves t x m) (action_follows t c accepted bt b m f x y.0)
-        ∙ ap (memory_after t rest) (stands_memory t c accepted bt b m f x y.0)
-        ∙ sym (memory_then t (stands_for t b x m) rest m)
+    expanded_memory (single call ∷ xs) y b m f =
+        expanded_memory xs y.1 (advance t c b call) (step t call m).memory (action_follows t c accepted bt b m f (single call) y.0)
+    expanded_memory (group g ∷ xs) y b m f =
+        expanded_memory xs y.1 (advance_by t c b (group g)) (group_step t g m).memory (action_follows t c accepted bt b m f (group g) y.0)
+        ∙ ap (memory_after t (expanded t c (advance_by t c b (group g)) xs)) (group_memory t c accepted bt b m f g y.0)
+        ∙ sym (memory_then t (pick (accepts_group b g) (group_sends g) []) (expanded t c (advance_by t c b (group g)) xs) m)

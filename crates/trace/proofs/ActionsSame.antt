@@ -1,39 +1,26 @@
--- Demand 3 (b) over lists with groups, begins and drains: groups alike give the same number, word, statuses and frames, and actions alike leave
--- memories and books alike.
+-- Demand 3 (b) over lists with groups: groups alike give the same number, word, statuses and frames, and leave memories and books alike.
 -- Assumes: the table holds bytes, and arguments are of the types that the calls take (`TypedAction`).
-use mathlib.Core.Bool.{Bool, true, false, not, ◌&&◌}
-use mathlib.Core.List.{List, [], ◌∷◌}
-use mathlib.Core.Logic.{◌⊎◌, inl, inr, ⊎_elim}
-use mathlib.Core.Path.{◌≡◌, refl, sym, ap, ap₂, subst, ◌∙◌}
-use Prim.Native.Nat.{ℕ, suc}
-use native.Mathlib.Omega.{arith}
-use lib.Bits.{bit_or}
-use lib.Dec.{leb, eqb}
-use lib.ListN.{length}
+use Rattle.std.proofs.Common.{Bool, true, false, List, [], ◌∷◌, inl, inr, ⊎_elim, ◌≡◌, refl, sym, ap, ap₂, subst, ◌∙◌, ℕ, suc, bit_or, length}
 use Rattle.memory.specs.Bytes.{Bytes}
 use Rattle.memory.specs.Search.{pick}
 use Rattle.memory.proofs.Tests.{true_not_false}
 use Rattle.table.specs.declared.Counts.{Counts}
 use Rattle.table.specs.declared.Verdict.TheVariants.{Accepted}
 use Rattle.table.specs.Check.{check}
-use Rattle.state.specs.Layout.{area_size}
-use Rattle.calls.specs.declared.Answer.{Answer}
 use Rattle.calls.specs.Answers.{Outcome, number_of, value_of}
 use Rattle.layer.specs.Admission.{working_memory}
 use Rattle.layer.specs.Step.{Call, send, step, run, memory_after}
 use Rattle.group.specs.declared.Pair.{Pair}
-use Rattle.group.specs.Pairs.{most_pairs}
 use Rattle.group.specs.Groups.{sent, Group, well_formed, group_step}
-use Rattle.trace.specs.Book.{Book, advance, book_after}
-use Rattle.trace.specs.Actions.{BeginGiven, DrainGiven, Action, single, group, begun_by, drained_by, leaves, sends_of, group_sends, accepts_group, advance_by}
-use Rattle.trace.specs.Demand3.{AllTyped, TypedAction, ActionsTyped, frame, names, Unnamed, HandedOver, numbers_of, words_joined, AllAlike, AllSame, SameShape}
-use Rattle.trace.specs.Demand3.{AlikeAction, alike_calls, alike_groups, alike_begins, alike_drains, ActionsAlike, SameAnswer, SameGroup, SameBegin, SameDrain, SameAction, ActionsSame}
+use Rattle.trace.specs.Book.{Book, advance}
+use Rattle.trace.specs.Actions.{Action, group, leaves, sends_of, group_sends, accepts_group, advance_by}
+use Rattle.trace.specs.Demand3.{AllTyped, TypedAction, ActionsTyped, Unnamed, HandedOver, numbers_of, words_joined, AllAlike, AllSame, SameShape}
+use Rattle.trace.specs.Demand3.{AlikeAction, alike_calls, alike_groups, ActionsAlike, SameGroup, SameAction, ActionsSame}
 use Rattle.trace.proofs.FramesInArea.{in_area_none}
 use Rattle.trace.proofs.Steps.{Follows}
-use Rattle.trace.proofs.Noninterference.{Step, alike_step, same_answer, lists_same, lists_end}
+use Rattle.trace.proofs.Noninterference.{alike_step, same_answer, lists_same, lists_end}
 use Rattle.trace.proofs.GroupSends.{sends_ran, refusal_by, GroupDoes, sends, refuses, group_does}
 use Rattle.trace.proofs.ActionsKept.{group_memory, action_follows}
-use Rattle.trace.proofs.SheetsSame.{Paired, begins_same, drains_same}
 
 -- ---- two lists of calls with the same answers
 
@@ -95,7 +82,8 @@ as_many : (t : List ℕ) (c : Counts) (b d : Book) (ps qs : List Pair) (area oth
 as_many t c b d [] [] area other a = refl
 as_many t c b d [] (q ∷ qs) area other a = absurd a
 as_many t c b d (p ∷ ps) [] area other a = absurd a
-as_many t c b d (p ∷ ps) (q ∷ qs) area other a = ap suc (as_many t c _ _ ps qs area other a.1)
+as_many t c b d (p ∷ ps) (q ∷ qs) area other a =
+    ap suc (as_many t c (advance t c b (send p.object p.value area)) (advance t c d (send q.object q.value other)) ps qs area other a.1)
 
 module _ (t : List ℕ) (c : Counts) (accepted : check t ≡ Accepted c) (bt : Bytes t) where
   module _ (b : Book) (m n : List ℕ) (f : Follows t c b m) (e : Follows t c b n) (alike : working_memory m ≡ working_memory n) where
@@ -154,7 +142,7 @@ module _ (t : List ℕ) (c : Counts) (accepted : check t ≡ Accepted c) (bt : B
       groups_step =
           let end = lists_end t c accepted bt (group_sends g) (group_sends h) p q b m n f e alike a in
           record {
-            same = λ k path. let z : h ≡ k = cc in subst (λ (x : Group). SameGroup t (group_step t g m) (group_step t x n)) z outcome_same;
+            same = outcome_same;
             memory =
                 ap working_memory (group_memory t c accepted bt b m f g p)
                 ∙ both (accepts_group b g) end.memory
@@ -170,38 +158,13 @@ module _ (t : List ℕ) (c : Counts) (accepted : check t ≡ Accepted c) (bt : B
 
     -- ---- actions
 
-    paired : Paired t c accepted bt b m n
-    paired = record { first = f; second = e; alike = alike }
-
     action_step : (x y : Action) → TypedAction x → TypedAction y → AlikeAction t c b b x y → ActionStep x y
     action_step x y p q (alike_calls u v ex ey a) =
         let typed_u = subst TypedAction ex p in
         let typed_v = subst TypedAction ey q in
         let s = alike_step t c accepted bt b m n f e alike u v typed_u typed_v a in
-        let answers = same_answer t c accepted bt b m n f e alike u v typed_u typed_v s in
-        rw (ex, ey)
-        (record {
-          same = λ w path. let z : v ≡ w = cc in subst (λ (x : Call). SameAnswer t u x (step t u m) (step t x n)) z answers;
-          memory = s.outcome.memory;
-          book = s.book;
-        })
+        rw (ex, ey) (record { same = same_answer t c accepted bt b m n f e alike u v typed_u typed_v s; memory = s.outcome.memory; book = s.book })
     action_step x y p q (alike_groups g h ex ey shape a) = rw (ex, ey) (groups_step g h (subst TypedAction ex p) (subst TypedAction ey q) shape a)
-    action_step x y p q (alike_begins g h ex ey objects long) =
-        let s = begins_same t c accepted bt b m n paired g h objects long in
-        rw (ex, ey)
-        (record {
-          same = λ k path. let z : h ≡ k = cc in subst (λ (w : BeginGiven). SameBegin (begun_by t g m) (begun_by t w n)) z s;
-          memory = alike;
-          book = refl;
-        })
-    action_step x y p q (alike_drains d h ex ey sheet long) =
-        let s = drains_same t c accepted bt b m n paired d h sheet long in
-        rw (ex, ey)
-        (record {
-          same = λ k path. let z : h ≡ k = cc in subst (λ (w : DrainGiven). SameDrain (drained_by t d m) (drained_by t w n)) z s.0;
-          memory = s.1;
-          book = refl;
-        })
 
   pub actions_same : (xs ys : List Action) → ActionsTyped xs → ActionsTyped ys → (b : Book) (m n : List ℕ) → Follows t c b m → Follows t c b n
       → working_memory m ≡ working_memory n → ActionsAlike t c b b xs ys → ActionsSame t xs ys m n

@@ -1,12 +1,6 @@
 -- What a call answers once it is admitted: refused, it leaves all lent bytes; and it answers no 6.
 -- Assumes nothing.
-use mathlib.Core.Bool.{Bool, true, false, not, ◌&&◌}
-use mathlib.Core.List.{List, []}
-use mathlib.Core.Path.{◌≡◌, refl}
-use Prim.Native.Nat.{ℕ}
-use native.Mathlib.Omega.{arith}
-use lib.Dec.{ltb, eqb}
-use lib.ListN.{length}
+use Rattle.std.proofs.Common.{Bool, true, false, not, ◌&&◌, List, [], ◌≡◌, refl, ℕ, arith, ltb, eqb, length}
 use Rattle.memory.specs.Search.{pick}
 use Rattle.memory.proofs.Search.{picked}
 use Rattle.table.specs.declared.Counts.{Counts}

@@ -1,14 +1,6 @@
 -- Demand 2 over lists of calls, the receivers: what a frame or an internal sender brings to a receive object arrives there.
 -- Assumes: the table holds bytes, and arguments are of the types that the calls take (`Typed`).
-use mathlib.Core.Bool.{true, false}
-use mathlib.Core.List.{List, ◌++◌}
-use mathlib.Core.Logic.{inr}
-use mathlib.Core.Path.{◌≡◌, refl, sym, ap, ◌∙◌}
-use Prim.Native.Nat.{ℕ, ◌+◌, ◌^◌, ◌≤◌, ◌<◌}
-use native.Mathlib.Omega.{arith}
-use borrow.Author.Tests.{eq-eqb, ne_eqb, lt-ltb, le-leb}
-use lib.Dec.{eqb}
-use lib.ListN.{length, take, drop, take-append-drop}
+use Rattle.std.proofs.Common.{true, false, List, ◌++◌, inr, ◌≡◌, refl, sym, ap, ◌∙◌, ℕ, ◌+◌, ◌^◌, ◌≤◌, ◌<◌, arith, eq-eqb, ne_eqb, lt-ltb, le-leb, eqb, length, take, drop, take-append-drop}
 use Rattle.memory.specs.Bytes.{Bytes, part, replaced}
 use Rattle.memory.proofs.Parts.{part_replaced, part_apart, part_front}
 use Rattle.memory.proofs.Search.{picked}

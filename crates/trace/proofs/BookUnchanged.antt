@@ -1,15 +1,7 @@
 -- What the book of demand 3 does not see: internal delivery, delivery of a frame, marks, periods, and the rows of I-PDUs. These change
 -- no old value or count of a send object, no slot of a send I-PDU, and not whether the layer runs.
 -- Assumes nothing.
-use mathlib.Core.Bool.{Bool, true, false}
-use mathlib.Core.List.{List}
-use mathlib.Core.Logic.{inl, inr, ⊎_elim}
-use mathlib.Core.Path.{◌≡◌, refl, ap, ◌∙◌}
-use Prim.Native.Nat.{ℕ, zero, suc, ◌+◌, ◌^◌, ◌≤◌, ◌<◌}
-use native.Mathlib.Omega.{arith}
-use borrow.Author.Tests.{eqb-true, ne_eqb}
-use lib.Dec.{eqb}
-use lib.ListN.{length}
+use Rattle.std.proofs.Common.{Bool, true, false, List, inl, inr, ⊎_elim, ◌≡◌, refl, ap, ◌∙◌, ℕ, zero, suc, ◌+◌, ◌^◌, ◌≤◌, ◌<◌, arith, eqb-true, ne_eqb, eqb, length}
 use Rattle.memory.specs.Bytes.{bytes_of, replaced, value, part, number_at}
 use Rattle.memory.specs.Search.{pick, fold}
 use Rattle.memory.proofs.Parts.{bytes_of_length, part_apart}

@@ -1,14 +1,7 @@
 -- Of which entry a reading's own bits are (W-205): in bytes whose bits are the book's, the reading stored last gives its low bits, and any
 -- reading its own bit at each place that no value kept since covers.
 -- Assumes nothing.
-use mathlib.Core.Bool.{Bool, true, false}
-use mathlib.Core.List.{List, [], ◌∷◌}
-use mathlib.Core.Logic.{⊎_elim}
-use mathlib.Core.Path.{◌≡◌, refl, sym, ap, ◌∙◌}
-use Prim.Native.Nat.{ℕ, ◌*◌, ◌<◌}
-use native.Mathlib.Omega.{arith}
-use borrow.Author.Tests.{eqb-true, eq-eqb, ne_eqb}
-use lib.Dec.{eqb}
+use Rattle.std.proofs.Common.{Bool, true, false, List, [], ◌∷◌, ⊎_elim, ◌≡◌, refl, sym, ap, ◌∙◌, ℕ, ◌*◌, ◌<◌, arith, eqb-true, eq-eqb, ne_eqb, eqb}
 use Rattle.memory.proofs.Search.{Found, found, nowhere, there, any_some, least_at}
 use Rattle.memory.proofs.Tests.{or_split, eq_or_ne, true_or_false, true_not_false}
 use Rattle.bits.specs.declared.Order.{Order}

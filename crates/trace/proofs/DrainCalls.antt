@@ -1,40 +1,33 @@
 -- A drain leaves working memory as its receives, marks and clear marks, one after the other, do (`drain_memory`); a refused one leaves it. These
 -- calls tell the book nothing (`all_about_book`). Assumes nothing.
-use mathlib.Core.Bool.{Bool, true, false, ◌&&◌}
-use mathlib.Core.List.{List, [], ◌∷◌, ◌++◌}
-use mathlib.Core.Logic.{⊎_elim}
-use mathlib.Core.Path.{◌≡◌, refl, sym, ap, ap₂, ◌∙◌}
-use Prim.Native.Nat.{ℕ, zero, suc, ◌+◌, ◌≤◌, ◌<◌}
-use native.Mathlib.Omega.{arith}
-use borrow.Author.Tests.{eqb-true, eqb-false}
-use lib.Dec.{leb, ltb, eqb}
-use lib.ListN.{length, drop, take-append-drop}
+use Rattle.std.proofs.Common.{Bool, true, false, ◌&&◌, List, [], ◌∷◌, ◌++◌, ⊎_elim, ◌≡◌, refl, sym, ap, ap₂, ◌∙◌, ℕ, zero, suc, ◌≤◌, arith, eqb-true, leb, ltb, eqb, length, drop, take-append-drop}
+use borrow.Author.Tests.{eqb-false}
 use Rattle.memory.specs.Bytes.{Bytes}
 use Rattle.memory.specs.Search.{pick, fold}
 use Rattle.memory.proofs.Search.{picked}
 use Rattle.memory.proofs.Tests.{and_split, true_or_false}
 use Rattle.table.specs.declared.Counts.{Counts}
 use Rattle.state.specs.Layout.{memory_size}
-use Rattle.calls.specs.Answers.{Outcome, outcome, number_of, value_of}
+use Rattle.calls.specs.Answers.{Outcome, number_of, value_of}
 use Rattle.calls.specs.Calls.{marks_in}
 use Rattle.layer.specs.declared.Admission.{Admission}
 use Rattle.layer.specs.declared.Admission.TheVariants.{Admitted, Refused}
 use Rattle.layer.specs.declared.Reply.{Reply}
-use Rattle.layer.specs.Admission.{working_memory, if_admitted}
+use Rattle.layer.specs.Admission.{if_admitted}
 use Rattle.layer.specs.Promises.{refusal, received, marks_read, marks_cleared, waiting_for, reads_signed}
 use Rattle.layer.specs.Step.{Call, receive, status, marks, clear_marks, no_area, told_nothing, describe, admission_for, step, memory_after}
 use Rattle.layer.proofs.GoesOn.{refused_unfit}
 use Rattle.sheet.specs.declared.Row.{Row}
-use Rattle.sheet.specs.Layout.{most_followed, sheet_row_size, sheet_size, followed_at, row_place, row_at, with_row, objects_in, sheet_in_range}
-use Rattle.sheet.specs.Numbers.{holds_error, with_reply, with_replies, with_marks}
-use Rattle.sheet.specs.Drains.{Taken, taken, and_then, take_up_to, take_all, Turn, drain_queue, see_marks, drain_object, Both, both, drain_turn, drain_each}
+use Rattle.sheet.specs.Layout.{most_followed, sheet_size, followed_at, row_at, objects_in, sheet_in_range}
+use Rattle.sheet.specs.Numbers.{holds_error, with_reply, with_replies}
+use Rattle.sheet.specs.Drains.{Taken, taken, and_then, take_up_to, take_all, drain_queue, see_marks, drain_object, both, drain_turn, drain_each}
 use Rattle.sheet.specs.Lines.{text_size}
-use Rattle.sheet.specs.Sheets.{DrainOutcome, objects_refusal, first_refusal, drain_with, drain}
+use Rattle.sheet.specs.Sheets.{objects_refusal, first_refusal, drain}
 use Rattle.sheet.proofs.InRange.{range_long, range_few}
 use Rattle.sheet.proofs.SheetRows.{row_length, row_other}
 use Rattle.trace.specs.Book.{Book, advance, book_after}
 use Rattle.trace.specs.Demand3.{Typed, AllTyped}
-use Rattle.trace.specs.Actions.{DrainGiven, drained_by, receives_up_to, receives_of, marks_of, turn_of, turns_of, drain_calls}
+use Rattle.trace.specs.Drains.{DrainGiven, drained_by, receives_up_to, receives_of, marks_of, turn_of, turns_of, drain_calls}
 
 pub memory_then : (t : List ℕ) (xs ys : List Call) (m : List ℕ) → memory_after t (xs ++ ys) m ≡ memory_after t ys (memory_after t xs m)
 memory_then t [] ys m = refl

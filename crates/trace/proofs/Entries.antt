@@ -1,16 +1,7 @@
 -- Demand 3's book has, from a start on, an entry of each send object and of no other: a bit that send objects cover is that of the
 -- latest entry of them all, and a bit that none covers is 0.
 -- Assumes nothing.
-use mathlib.Core.Bool.{Bool, true, false, not, ◌&&◌, ◌||◌}
-use mathlib.Core.List.{List, [], ◌∷◌}
-use mathlib.Core.Logic.{⊎_elim}
-use mathlib.Core.Path.{◌≡◌, refl, sym, ap}
-use Prim.Native.Nat.{ℕ, zero, suc, ◌≤◌, ◌<◌}
-use native.Mathlib.Nat.{not-suc-le-zero}
-use native.Mathlib.Omega.{arith}
-use borrow.Author.Tests.{eqb-true, eq-eqb, lt-ltb, ltb-true}
-use lib.Dec.{leb, ltb, eqb}
-use lib.ListN.{length}
+use Rattle.std.proofs.Common.{Bool, true, false, not, ◌&&◌, ◌||◌, List, [], ◌∷◌, ⊎_elim, ◌≡◌, refl, sym, ap, ℕ, zero, suc, ◌≤◌, ◌<◌, not-suc-le-zero, arith, eqb-true, eq-eqb, lt-ltb, ltb-true, leb, ltb, eqb, length}
 use Rattle.memory.specs.Search.{fold}
 use Rattle.memory.proofs.Search.{picked}
 use Rattle.memory.proofs.Tests.{and_split, eq_or_ne, true_or_false, true_not_false}
@@ -18,7 +9,7 @@ use Rattle.table.specs.declared.Counts.{Counts}
 use Rattle.table.specs.Records.{sending, object_record}
 use Rattle.layer.specs.Step.{Call, Told, told_start, told_stop, told_send, told_initialise, told_nothing, lent_bytes, describe}
 use Rattle.state.specs.Layout.{area_size}
-use Rattle.trace.specs.Actions.{Action, single, group, begin_sheet, drain_sheet, group_sends, accepts_group, advance_by, book_after_all}
+use Rattle.trace.specs.Actions.{Action, single, group, group_sends, accepts_group, advance_by, book_after_all}
 use Rattle.trace.specs.Book.{Entry, Book, enter, sends, open_entry, opened, keeps, accepts, entered, advance, book_after, owns_ipdu_bit, book_bit, Latest}
 
 abbrev pub has : ℕ → List Entry → Bool
@@ -120,14 +111,12 @@ module _ (t : List ℕ) (c : Counts) where
   pub started_full : (calls : List Call) → Full (book_after t c (opened t c) calls).entries
   started_full calls = after_full calls (opened t c) opened_full
 
-  -- ---- lists with groups and drains
+  -- ---- lists with groups
 
   pub action_full : (b : Book) → FullBook b → (x : Action) → FullBook (advance_by t c b x)
   action_full b full (single call) = advance_full b full call
   action_full b full (group g) =
       picked FullBook (accepts_group b g) (book_after t c b (group_sends g)) b (λ e. after_full (group_sends g) b full) (λ e. full)
-  action_full b full (begin_sheet g) = full
-  action_full b full (drain_sheet d) = full
 
   pub actions_full : (xs : List Action) (b : Book) → FullBook b → FullBook (book_after_all t c b xs)
   actions_full [] b full = full

@@ -1,12 +1,6 @@
 -- W-203: the filterings by a call of an object with filter 14 pass in turn, and its count goes on with each.
 -- Assumes nothing.
-use mathlib.Core.Bool.{Bool, true, false}
-use mathlib.Core.List.{List, [], ◌∷◌, ◌++◌}
-use mathlib.Core.Path.{◌≡◌, refl, sym, ap, ◌∙◌}
-use Prim.Native.Nat.{ℕ, ◌+◌, ◌-◌, ◌%◌, ◌≤◌, ◌<◌}
-use native.Mathlib.Nat.{add-zero}
-use native.Mathlib.Omega.{arith}
-use lib.ListN.{length, length-append}
+use Rattle.std.proofs.Common.{Bool, true, false, List, [], ◌∷◌, ◌++◌, ◌≡◌, refl, sym, ap, ◌∙◌, ℕ, ◌+◌, ◌-◌, ◌%◌, ◌≤◌, ◌<◌, add-zero, arith, length, length-append}
 use Rattle.memory.specs.Search.{pick}
 use Rattle.filter.specs.Filters.{greatest_count, next_count, filter_of}
 use Rattle.filter.specs.declared.Filter.TheVariants.{OneEveryN}

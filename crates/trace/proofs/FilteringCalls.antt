@@ -1,14 +1,7 @@
 -- W-203, one call over an accepted table and any filter: what it leaves of an object's row where it filters a value of it, and of its count
 -- where it filters none.
 -- Assumes: arguments are of the types that the calls take (`Typed`).
-use mathlib.Core.Bool.{Bool, true, false, ◌||◌}
-use mathlib.Core.List.{List}
-use mathlib.Core.Path.{◌≡◌, refl, sym, ap, ◌∙◌}
-use Prim.Native.Nat.{ℕ, ◌<◌}
-use native.Mathlib.Omega.{arith}
-use borrow.Author.Tests.{eqb-true, eq-eqb, ne_eqb}
-use lib.Dec.{eqb}
-use lib.ListN.{length}
+use Rattle.std.proofs.Common.{Bool, true, false, ◌||◌, List, ◌≡◌, refl, sym, ap, ◌∙◌, ℕ, ◌<◌, arith, eqb-true, eq-eqb, ne_eqb, eqb, length}
 use Rattle.memory.specs.Bytes.{Bytes, replaced}
 use Rattle.memory.specs.Search.{pick}
 use Rattle.memory.proofs.Search.{picked}

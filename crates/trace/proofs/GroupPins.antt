@@ -1,14 +1,7 @@
 -- The claims say something of groups: from the theorems themselves come a frame bit of a group that is 1, equal statuses and frames of
 -- two groups, and bytes that a refused group leaves. A weaker claim does not have these.
 -- Assumes nothing.
-use mathlib.Core.Bool.{true, false}
-use mathlib.Core.List.{List, [], ◌∷◌}
-use mathlib.Core.Logic.{inl, inr}
-use mathlib.Core.Path.{◌≡◌, refl, ap, ap₂, ◌∙◌}
-use Prim.Native.Nat.{ℕ}
-use native.Mathlib.Omega.{arith}
-use borrow.Author.Tests.{eq-eqb, eqb-true}
-use lib.Dec.{eqb}
+use Rattle.std.proofs.Common.{true, false, List, [], ◌∷◌, inl, inr, ◌≡◌, refl, ap, ap₂, ◌∙◌, ℕ, arith, eq-eqb, eqb-true, eqb}
 use Rattle.memory.specs.Bytes.{value, bytes_of, part, number_at}
 use Rattle.memory.proofs.Tests.{true_not_false}
 use Rattle.bits.specs.Bits.{bit, frame_bit, place, owns}
@@ -21,7 +14,7 @@ use Rattle.group.specs.Pairs.{pair, pair_at, in_bytes, in_records}
 use Rattle.group.specs.Groups.{Group, group_of, send_each, group_step}
 use Rattle.cases.proofs.Definitions.{definitions}
 use Rattle.trace.specs.Book.{unopened, advance}
-use Rattle.trace.specs.Actions.{Action, single, group, group_sends}
+use Rattle.trace.specs.Actions.{single, group, group_sends}
 use Rattle.trace.specs.Demand3 as claim
 use Rattle.trace.specs.Demand3.{ActionsTyped, words_joined, same, areas, dropped, alike_calls, alike_groups, ActionsAlike}
 use Rattle.trace.proofs.FramesInArea.{in_area_none}
@@ -109,10 +102,10 @@ group_word = both.0.1.0.word refl
 
 -- the other group, from other memory, area and status list, has the same statuses and frame
 pub same_statuses : (group_step table g begun).statuses ≡ (group_step table h (step table start n).memory).statuses
-same_statuses = ((both.1 groups_alike).1.0 h refl).statuses (eqb-true (number_of (group_step table g begun).answer) 0 group_done)
+same_statuses = (both.1 groups_alike).1.0.statuses (eqb-true (number_of (group_step table g begun).answer) 0 group_done)
 
 pub same_group_frame : claim.frame table 0 (group_step table g begun).area ≡ claim.frame table 0 (group_step table h (step table start n).memory).area
-same_group_frame = ((both.1 groups_alike).1.0 h refl).frames 0 asked
+same_group_frame = (both.1 groups_alike).1.0.frames 0 asked
 
 -- ---- a group with a pair cut off
 

@@ -1,21 +1,12 @@
 -- A group beside its sends, each lent the group's area: the same memory, numbers and words, and the frames of the latest sends that ask
 -- for them.
 -- Assumes: the table holds bytes, and a value that is sent has 32 bits (`Typed`).
-use mathlib.Core.Bool.{Bool, true, false, not, ◌&&◌}
-use mathlib.Core.List.{List, [], ◌∷◌, ◌++◌, append-nil}
-use mathlib.Core.Logic.{◌⊎◌, inl, inr, ⊎_elim}
-use mathlib.Core.Path.{◌≡◌, refl, sym, ap, subst, ◌∙◌}
-use Prim.Native.Nat.{ℕ, zero, suc, ◌*◌, ◌^◌, ◌≤◌, ◌<◌}
-use native.Mathlib.Omega.{arith}
-use borrow.Author.Tests.{leb-true}
-use lib.Bits.{bit_or}
-use lib.Dec.{leb}
-use lib.ListN.{length, drop}
+use Rattle.std.proofs.Common.{Bool, true, false, List, [], ◌∷◌, ◌++◌, append-nil, ◌⊎◌, inl, inr, ⊎_elim, ◌≡◌, refl, sym, ap, subst, ◌∙◌, ℕ, ◌*◌, ◌^◌, ◌≤◌, ◌<◌, arith, leb-true, bit_or, leb, length, drop}
 use Rattle.memory.specs.Bytes.{Bytes, part}
 use Rattle.memory.specs.Search.{pick}
 use Rattle.memory.proofs.Tests.{eq_or_ne, true_not_false}
 use Rattle.bits.specs.Bits.{bit}
-use Rattle.bits.proofs.Numbers.{bit_lt, bit_of_zero, or_bit}
+use Rattle.bits.proofs.Numbers.{bit_lt, or_bit}
 use Rattle.table.specs.declared.Counts.{Counts}
 use Rattle.table.specs.declared.Verdict.TheVariants.{Accepted}
 use Rattle.table.specs.Records.{ipdu_record}
@@ -28,13 +19,13 @@ use Rattle.calls.proofs.Records.{ipdu_short}
 use Rattle.layer.specs.declared.Admission.{Admission}
 use Rattle.layer.specs.declared.Admission.TheVariants.{Admitted, Refused}
 use Rattle.layer.specs.Admission.{working_memory, admission, if_admitted}
-use Rattle.layer.specs.Step.{Call, send, describe, step, run, memory_after}
+use Rattle.layer.specs.Step.{send, describe, step, run, memory_after}
 use Rattle.group.specs.declared.Pair.{Pair}
-use Rattle.group.specs.Groups.{Sent, sent, with_send, send_each, send_one, Group, GroupOutcome, refuse, well_formed, outcome_of, group_step}
+use Rattle.group.specs.Groups.{Sent, sent, with_send, send_each, send_one, Group, refuse, well_formed, outcome_of, group_step}
 use Rattle.group.proofs.SendLeaves.{send_area_length, send_area_slot}
 use Rattle.trace.specs.Book.{Book, advance}
 use Rattle.trace.specs.Demand3.{AllTyped, frame, names, Unnamed, HandedOver, numbers_of, words_joined}
-use Rattle.trace.specs.Actions.{sends_of, group_sends, accepts_group}
+use Rattle.trace.specs.Actions.{sends_of, accepts_group}
 use Rattle.trace.proofs.SendFrames.{send_area}
 use Rattle.trace.proofs.Steps.{Follows, admission_by, Admits, goes, stays, admits, admission_is, step_follows, step_frames}
 

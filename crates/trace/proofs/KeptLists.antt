@@ -1,12 +1,7 @@
 -- Demand 3 (a): whether a call is refused follows from the book, and each bit of each frame, and of each send I-PDU in working memory, is
 -- the book's; over every list.
 -- Assumes: the table holds bytes, and arguments are of the types that the calls take (`Typed`).
-use mathlib.Core.List.{List, [], ◌∷◌}
-use mathlib.Core.Path.{◌≡◌, sym, ap, ◌∙◌}
-use Prim.Native.Nat.{ℕ, ◌+◌, ◌*◌, ◌≤◌, ◌<◌}
-use native.Mathlib.Omega.{arith}
-use lib.ListN.{length, take, drop, take-append-drop}
-use lib.Seq.{length-take-le}
+use Rattle.std.proofs.Common.{List, [], ◌∷◌, ◌≡◌, sym, ap, ◌∙◌, ℕ, ◌+◌, ◌*◌, ◌≤◌, ◌<◌, arith, length, take, drop, take-append-drop, length-take-le}
 use Rattle.memory.specs.Bytes.{Bytes, part}
 use Rattle.memory.proofs.Parts.{part_length, part_front}
 use Rattle.bits.specs.Bits.{frame_bit}

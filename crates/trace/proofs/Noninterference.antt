@@ -1,14 +1,7 @@
 -- Demand 3, two lists: calls alike but for dropped values give the same answers and frames, over memories that are alike in the
 -- first 8,192 bytes, and leave such memories.
 -- Assumes: the table holds bytes, and arguments are of the types that the calls take (`Typed`).
-use mathlib.Core.Bool.{true, false}
-use mathlib.Core.List.{List, [], ◌∷◌}
-use mathlib.Core.Logic.{⊎_elim}
-use mathlib.Core.Path.{◌≡◌, refl, sym, ap, subst, ◌∙◌}
-use Prim.Native.Nat.{ℕ, ◌^◌, ◌≤◌, ◌<◌}
-use native.Mathlib.Omega.{arith}
-use borrow.Author.Tests.{le-leb}
-use lib.ListN.{length}
+use Rattle.std.proofs.Common.{true, false, List, [], ◌∷◌, ⊎_elim, ◌≡◌, refl, sym, ap, subst, ◌∙◌, ℕ, ◌^◌, ◌≤◌, ◌<◌, arith, le-leb, length}
 use Rattle.memory.specs.Bytes.{Bytes, part}
 use Rattle.memory.proofs.Tests.{true_or_false}
 use Rattle.table.specs.declared.Counts.{Counts}

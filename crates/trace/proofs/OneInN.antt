@@ -1,12 +1,7 @@
--- W-203 over lists of calls, groups, begins and drains: the filterings of an object with filter 14 pass in turn, so that of any N in a row, N the period,
+-- W-203 over lists of calls and groups: the filterings of an object with filter 14 pass in turn, so that of any N in a row, N the period,
 -- exactly one passes.
 -- Assumes: the table holds bytes, and arguments are of the types that the calls take (`TypedAction`).
-use mathlib.Core.Bool.{Bool, true, false}
-use mathlib.Core.List.{List, [], ◌∷◌, ◌++◌}
-use mathlib.Core.Path.{◌≡◌, refl, sym, ap, ◌∙◌}
-use Prim.Native.Nat.{ℕ, ◌+◌, ◌%◌}
-use native.Mathlib.Nat.{mod-eq_of_lt}
-use lib.ListN.{length}
+use Rattle.std.proofs.Common.{Bool, true, false, List, [], ◌∷◌, ◌++◌, ◌≡◌, refl, sym, ap, ◌∙◌, ℕ, ◌+◌, ◌%◌, mod-eq_of_lt, length}
 use Rattle.memory.specs.Bytes.{Bytes}
 use Rattle.memory.specs.Search.{pick}
 use Rattle.memory.proofs.Tests.{true_not_false}
@@ -20,33 +15,15 @@ use Rattle.layer.specs.Step.{Call, start, send, describe, step, memory_after}
 use Rattle.group.specs.declared.Pair.{Pair}
 use Rattle.group.specs.Groups.{Group, group_step}
 use Rattle.trace.specs.Book.{Book, opened, advance}
-use Rattle.trace.specs.Actions.{Action, single, group, begin_sheet, drain_sheet, leaves, sends_of, group_sends, drain_calls, accepts_group, advance_by, memory_after_all, book_after_all}
+use Rattle.trace.specs.Actions.{Action, single, group, leaves, sends_of, group_sends, accepts_group, advance_by, memory_after_all, book_after_all}
 use Rattle.trace.specs.Demand3.{Typed, AllTyped, TypedAction, ActionsTyped}
 use Rattle.trace.specs.Filterings.{filtered_by, filtered_in, action_filters, filterings, passed, NoStart, Fourteen, period_of, offset_of, OneInN, turns, InTurn}
 use Rattle.trace.proofs.StartRefines.{started_count}
 use Rattle.trace.proofs.Steps.{Follows, start_accepted, start_follows, start_memory, step_follows}
-use Rattle.trace.proofs.DrainCalls.{AllAboutObjects, all_about_typed, drain_about, drain_memory}
 use Rattle.trace.proofs.ActionsKept.{group_memory, group_kept, action_follows, actions_follow}
 use Rattle.trace.proofs.TurnLaws.{turns_part, one_turn}
 use Rattle.trace.proofs.Filtered.{in_period, count_remainder, InTurnFrom, in_turn_then, none_filtered, call_in_turn}
 use Rattle.trace.proofs.StepFilters.{step_filters}
-
--- ---- the calls of groups and drains are no starts
-
-abbrev NoneStarts : List Call → Type 0
-NoneStarts [] = Unit {0}
-NoneStarts (call ∷ calls) = (call ≡ start → ⊥) × NoneStarts calls
-
-no_start : (call : Call) → (describe call).running ≡ true → call ≡ start → ⊥
-no_start call runs e = true_not_false runs (ap (λ (c : Call). (describe c).running) e)
-
-sends_none_start : (ps : List Pair) (area : List ℕ) → NoneStarts (sends_of ps area)
-sends_none_start [] area = tt
-sends_none_start (p ∷ ps) area = (no_start (send p.object p.value area) refl, sends_none_start ps area)
-
-about_none_start : (calls : List Call) → AllAboutObjects calls → NoneStarts calls
-about_none_start [] a = tt
-about_none_start (call ∷ calls) a = (no_start call a.0.runs, about_none_start calls a.1)
 
 module _ (t : List ℕ) (accepted : check t ≡ Accepted (counts t)) (bt : Bytes t) (i : ℕ) (x : Fourteen t i) where
   right : Right t (counts t)
@@ -65,15 +42,16 @@ module _ (t : List ℕ) (accepted : check t ≡ Accepted (counts t)) (bt : Bytes
       → From n (filtered_by t i call m) (step t call m).memory
   step_in_turn b m f n here call other y = call_in_turn t right i x n m here call other (step_filters t accepted bt b m f call y i x.low)
 
-  -- a list of calls with no start among them
-  calls_in_turn : (calls : List Call) → AllTyped calls → NoneStarts calls → (b : Book) (m : List ℕ) → Follows t (counts t) b m → (n : ℕ) → Counted n m
-      → From n (filtered_in t i calls m) (memory_after t calls m)
-  calls_in_turn [] y others b m f n here = none n m here
-  calls_in_turn (call ∷ calls) y others b m f n here =
-      let one = step_in_turn b m f n here call others.0 y.0 in
-      in_turn_then t right i x n (filtered_by t i call m) (filtered_in t i calls (step t call m).memory)
-      (step t call m).memory (memory_after t calls (step t call m).memory) one
-      (calls_in_turn calls y.1 others.1 (advance t (counts t) b call) (step t call m).memory (step_follows t (counts t) accepted bt b m f call y.0)
+  -- the sends of a group
+  sends_in_turn : (ps : List Pair) (area : List ℕ) → AllTyped (sends_of ps area) → (b : Book) (m : List ℕ) → Follows t (counts t) b m → (n : ℕ) → Counted n m
+      → From n (filtered_in t i (sends_of ps area) m) (memory_after t (sends_of ps area) m)
+  sends_in_turn [] area y b m f n here = none n m here
+  sends_in_turn (p ∷ ps) area y b m f n here =
+      let call = send p.object p.value area in
+      let one = step_in_turn b m f n here call (λ e. true_not_false {b = true} refl (ap (λ (c : Call). (describe c).running) e)) y.0 in
+      in_turn_then t right i x n (filtered_by t i call m) (filtered_in t i (sends_of ps area) (step t call m).memory)
+      (step t call m).memory (memory_after t (sends_of ps area) (step t call m).memory) one
+      (sends_in_turn ps area y.1 (advance t (counts t) b call) (step t call m).memory (step_follows t (counts t) accepted bt b m f call y.0)
       (n + length (filtered_by t i call m)) one.count)
 
   module _ (b : Book) (m : List ℕ) (f : Follows t (counts t) b m) (n : ℕ) (here : Counted n m) where
@@ -82,17 +60,12 @@ module _ (t : List ℕ) (accepted : check t ≡ Accepted (counts t)) (bt : Bytes
     group_in_turn g y = rw ((group_kept t (counts t) accepted bt b m f g y).judged, group_memory t (counts t) accepted bt b m f g y) (by (accepts_group b g))
       where
         by : (went : Bool) → From n (pick went (filtered_in t i (group_sends g) m) []) (memory_after t (pick went (group_sends g) []) m)
-        by true = calls_in_turn (group_sends g) y (sends_none_start g.pairs.list g.area) b m f n here
+        by true = sends_in_turn g.pairs.list g.area y b m f n here
         by false = none n m here
 
     action_in_turn : (a : Action) → (a ≡ single start → ⊥) → TypedAction a → From n (action_filters t i a m) (leaves t a m)
     action_in_turn (single call) other y = step_in_turn b m f n here call (λ e. other (ap single e)) y
     action_in_turn (group g) other y = group_in_turn g y
-    action_in_turn (begin_sheet g) other y = none n m here
-    action_in_turn (drain_sheet d) other y =
-        let calls = drain_calls t d m in
-        let about = drain_about t d m in
-        rw (drain_memory t d m) (calls_in_turn calls (all_about_typed calls about) (about_none_start calls about) b m f n here)
 
   actions_in_turn : (xs : List Action) → ActionsTyped xs → NoStart xs → (b : Book) (m : List ℕ) → Follows t (counts t) b m → (n : ℕ) → Counted n m
       → From n (filterings t i xs m) (memory_after_all t xs m)

@@ -1,13 +1,7 @@
 -- The claims say something: their premises hold of lists that have every call, and from the theorems themselves come a frame bit that is
 -- 1, equal frames, equal values, refusals, and bytes that stay. A weaker claim does not have these.
 -- Assumes nothing.
-use mathlib.Core.Bool.{Bool, true, false, ◌&&◌}
-use mathlib.Core.List.{List, [], ◌∷◌}
-use mathlib.Core.Path.{◌≡◌, refl, ap}
-use Prim.Native.Nat.{ℕ, zero, suc, ◌<◌}
-use native.Mathlib.Omega.{arith}
-use borrow.Author.Tests.{eq-eqb}
-use lib.ListN.{length, replicate}
+use Rattle.std.proofs.Common.{true, false, List, [], ◌∷◌, ◌≡◌, refl, ap, ℕ, ◌<◌, arith, eq-eqb, length, replicate}
 use Rattle.memory.specs.Bytes.{Bytes, value, bytes_of, part, number_at}
 use Rattle.memory.proofs.Tests.{tested, true_not_false}
 use Rattle.bits.specs.Bits.{bit, frame_bit, place, owns, extended, read_back}
@@ -193,11 +187,11 @@ first_named_lem = both.0.1.0.named 0 requested
 -- the same frame from other memory and another area, the same answer to the dropped value
 pub same_frame : claim.frame table 0 (step table (send 0 2748 here) (after (start ∷ []) m)).area
     ≡ claim.frame table 0 (step table (send 0 2748 there) (after (start ∷ []) n)).area
-same_frame = ((both.1 alike).1.0 (send 0 2748 there) refl).frames 0 requested
+same_frame = (both.1 alike).1.0.frames 0 requested
 
 pub same_value : value_of (step table (send 0 3 here) (after (start ∷ send 0 2748 here ∷ confirm 0 true ∷ []) m)).answer
     ≡ value_of (step table (send 0 4 there) (after (start ∷ send 0 2748 there ∷ confirm 0 true ∷ []) n)).answer
-same_value = ((both.1 alike).1.1.1.0 (send 0 4 there) refl).value
+same_value = (both.1 alike).1.1.1.0.value
 
 -- ---- refusals
 

@@ -1,17 +1,7 @@
 -- A layer that runs: what a receive of it gives, and when a value that a call brought to a receive object has arrived there.
 -- Assumes: the table holds bytes, and arguments are of the types that the calls take (`Typed`).
-use mathlib.Core.Bool.{true, false}
-use mathlib.Core.List.{List, [], ◌∷◌, ◌++◌}
-use mathlib.Core.Logic.{◌⊎◌, inl, inr, ⊎_elim}
-use mathlib.Core.Path.{◌≡◌, refl, sym, ap, ◌∙◌}
-use Prim.Native.Nat.{ℕ, suc, ◌+◌, ◌^◌, ◌≤◌, ◌<◌}
-use native.Mathlib.Omega.{arith}
-use borrow.Author.Tests.{ne_eqb, lt-ltb}
-use lib.Dec.{eqb}
-use lib.ListN.{length}
+use Rattle.std.proofs.Common.{true, false, List, [], ◌∷◌, ◌++◌, ◌⊎◌, inr, ◌≡◌, refl, sym, ap, ◌∙◌, ℕ, suc, ◌+◌, ◌^◌, ◌≤◌, ◌<◌, arith, lt-ltb, length}
 use Rattle.memory.specs.Bytes.{Bytes, part}
-use Rattle.memory.proofs.Tests.{true_or_false}
-use Rattle.bits.specs.Bits.{room}
 use Rattle.table.specs.declared.Counts.{Counts}
 use Rattle.table.specs.declared.Verdict.TheVariants.{Accepted}
 use Rattle.table.specs.Records.{receiving, counts, object_record}
@@ -23,14 +13,13 @@ use Rattle.state.specs.Ranges.{Ready}
 use Rattle.state.proofs.RowLaws.{object_part, object_other, object_read}
 use Rattle.state.proofs.Ready.{object_row_lem}
 use Rattle.message.specs.Objects.{object, passes_filter, after_filter, marked, delivered, deliver}
-use Rattle.queue.specs.Queues.{oldest, dequeue, waiting}
+use Rattle.queue.specs.Queues.{oldest, waiting}
 use Rattle.message.proofs.ObjectsInRange.{ready_held}
 use Rattle.message.proofs.Queues.{waiting_length, waiting_oldest, waiting_arrived, waiting_same}
 use Rattle.calls.specs.declared.Answer.TheVariants.{Done}
-use Rattle.calls.specs.Answers.{Outcome, outcome, number_of, value_of}
-use Rattle.calls.specs.Calls.{is_object, limited, receive_in}
+use Rattle.calls.specs.Answers.{Outcome, number_of, value_of}
+use Rattle.calls.specs.Calls.{is_object, receive_in}
 use Rattle.calls.proofs.Received.{taken, limited_gives}
-use Rattle.calls.proofs.SendParts.{after}
 use Rattle.layer.specs.Admission.{working_memory, on_working_memory}
 use Rattle.layer.specs.Step.{Call, start, receive, long_enough, describe, step}
 use Rattle.layer.proofs.Admitted.{front_of}

@@ -1,14 +1,7 @@
 -- Working memory refines the book of demand 3: old values, counts, stopped, and each bit of each send I-PDU.
 -- Assumes nothing.
-use mathlib.Core.Bool.{Bool, true, false}
-use mathlib.Core.List.{List}
-use mathlib.Core.Logic.{inl, inr, ⊎_elim}
-use mathlib.Core.Path.{◌≡◌, sym, ap, ap₂, ◌∙◌}
-use Prim.Native.Nat.{ℕ, ◌*◌, ◌≤◌, ◌<◌}
-use native.Mathlib.Omega.{arith}
-use borrow.Author.Tests.{eqb-true, eqb-false, eq-eqb, ne_eqb}
-use lib.Dec.{eqb}
-use lib.ListN.{length}
+use Rattle.std.proofs.Common.{Bool, true, false, List, inl, inr, ⊎_elim, ◌≡◌, sym, ap, ap₂, ◌∙◌, ℕ, ◌*◌, ◌≤◌, ◌<◌, arith, eqb-true, eq-eqb, ne_eqb, eqb, length}
+use borrow.Author.Tests.{eqb-false}
 use Rattle.memory.specs.Bytes.{part}
 use Rattle.memory.specs.Search.{pick, any_below}
 use Rattle.memory.proofs.Parts.{part_length}

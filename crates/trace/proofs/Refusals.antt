@@ -1,15 +1,7 @@
--- Demand 1 over calls, groups, begins and drains, and lists of them: a refused one leaves all lent bytes (of a begin and a drain the sheet has
--- that law); after an accepted start none meets a number out of its range; memory that was never started does not run.
+-- Demand 1 over calls, groups and lists of them: a refused one leaves all lent bytes; after an accepted start none meets a number out of
+-- its range; memory that was never started does not run.
 -- Assumes nothing; `never_6` that the table holds bytes and that arguments are of the types that the calls take (`TypedAction`).
-use mathlib.Core.Bool.{Bool, true, false, ◌&&◌}
-use mathlib.Core.List.{List, [], ◌∷◌, ◌++◌}
-use mathlib.Core.Logic.{◌⊎◌, inl, inr, ⊎_elim}
-use mathlib.Core.Path.{◌≡◌, refl, ap, ◌∙◌}
-use Prim.Native.Nat.{ℕ, zero, suc}
-use native.Mathlib.Omega.{arith}
-use borrow.Author.Tests.{ne_eqb}
-use lib.Dec.{leb}
-use lib.ListN.{length, drop, replicate, take-append-drop}
+use Rattle.std.proofs.Common.{Bool, true, false, ◌&&◌, List, [], ◌∷◌, ◌++◌, inl, inr, ⊎_elim, ◌≡◌, refl, ap, ◌∙◌, ℕ, zero, suc, leb, length, drop, replicate, take-append-drop}
 use Rattle.memory.specs.Bytes.{Bytes, value, part, number_at}
 use Rattle.memory.proofs.Search.{picked}
 use Rattle.memory.proofs.Tests.{true_or_false}
@@ -25,18 +17,15 @@ use Rattle.calls.specs.Answers.{number_of}
 use Rattle.layer.specs.declared.Admission.{Admission}
 use Rattle.layer.specs.declared.Admission.TheVariants.{Admitted, Refused}
 use Rattle.layer.specs.Admission.{working_memory, admission_of, admission, if_admitted}
-use Rattle.layer.specs.Promises.{refusal_of, refusal}
 use Rattle.layer.specs.Step.{Call, start, lent_bytes, long_enough, describe, admission_for, step}
 use Rattle.group.specs.Groups.{Group, GroupOutcome, well_formed, if_group_admitted, group_step}
-use Rattle.sheet.specs.Sheets.{first_refusal}
 use Rattle.trace.specs.Book.{Book, opened}
-use Rattle.trace.specs.Actions.{Action, single, group, begin_sheet, drain_sheet, BeginGiven, DrainGiven, begun_by, drained_by, number_by, leaves, asks_running, lent_fits, advance_by}
+use Rattle.trace.specs.Actions.{Action, single, group, answer_of, leaves, asks_running, area_fits, advance_by}
 use Rattle.trace.specs.Demand3.{ActionsTyped, done}
 use Rattle.trace.specs.Refusals.{Unchanged, IsRefused, GroupUnchanged, Never6, NotAdmitted}
 use Rattle.trace.proofs.Shows.{shows}
 use Rattle.trace.proofs.Steps.{start_accepted, Follows, start_follows, step_not_6}
 use Rattle.trace.proofs.GroupSends.{group_not_6}
-use Rattle.trace.proofs.SheetNumbers.{begin_number_lem, drain_number_lem, begin_not_6, drain_not_6}
 use Rattle.trace.proofs.ActionsKept.{action_follows}
 
 -- ---- a refused call
@@ -65,7 +54,7 @@ refused_group_leaves t g m = by (admission t m (leb area_size (length g.area)))
 
 -- ---- after a start
 
--- every list of actions that begins with an accepted start
+-- every list of calls and groups that begins with an accepted start
 pub never_6 : (t : List ℕ) → Bytes t → (xs : List Action) → ActionsTyped xs → (m : List ℕ) → done (step t start m) ≡ true
     → Never6 t xs (step t start m).memory
 never_6 t bt xs y m e =
@@ -73,11 +62,9 @@ never_6 t bt xs y m e =
     after xs y a.table (opened t (counts t)) (step t start m).memory (start_follows t (counts t) a.table bt m a.long)
   where
     not_6 : check t ≡ Accepted (counts t) → (b : Book) (m : List ℕ) → Follows t (counts t) b m → (x : Action)
-        → lent_fits x ≡ true → number_by t x m ≡ 6 → ⊥
+        → area_fits x ≡ true → number_of (answer_of t x m) ≡ 6 → ⊥
     not_6 right b m f (single call) = step_not_6 t (counts t) right bt b m f call
     not_6 right b m f (group g) = group_not_6 t (counts t) right bt b g m f
-    not_6 right b m f (begin_sheet g) = begin_not_6 t (counts t) right bt b m f g
-    not_6 right b m f (drain_sheet d) = drain_not_6 t (counts t) right bt b m f d
 
     after : (xs : List Action) → ActionsTyped xs → check t ≡ Accepted (counts t) → (b : Book) (m : List ℕ) → Follows t (counts t) b m → Never6 t xs m
     after [] y right b m f = tt
@@ -90,7 +77,7 @@ never_6 t bt xs y m e =
 
 -- a refusal with 5, 6 or 7
 data Refuses (a : Admission) : Type 0 where
-  refuses : (r : Answer) → a ≡ Refused r → NotAdmitted (number_of r) → Refuses a
+  refuses : (r : Answer) → a ≡ Refused r → NotAdmitted r → Refuses a
 
 stopped_admission : (t m : List ℕ) (fits : Bool) → running_at (working_memory m) ≡ 0 → Refuses (admission t m fits)
 unfolding admission
@@ -110,52 +97,31 @@ stopped_admission t m fits off = by (check t)
     by (WrongIpdu k) = refuses WrongTable refl (inl refl)
     by (WrongObject i) = refuses WrongTable refl (inl refl)
 
-call_refused : (t : List ℕ) (call : Call) (m : List ℕ) → (describe call).running ≡ true → running_at (working_memory m) ≡ 0 → NotAdmitted (number_of (step t call m).answer)
+call_refused : (t : List ℕ) (call : Call) (m : List ℕ) → (describe call).running ≡ true → running_at (working_memory m) ≡ 0 → NotAdmitted (step t call m).answer
 unfolding step
 call_refused t call m asks off = rw asks (by (stopped_admission t m (long_enough (describe call).lent) off))
   where
     by : Refuses (admission t m (long_enough (describe call).lent))
-        → NotAdmitted (number_of (if_admitted (admission t m (long_enough (describe call).lent)) m (lent_bytes (describe call).lent) ((describe call).does t)).answer)
+        → NotAdmitted (if_admitted (admission t m (long_enough (describe call).lent)) m (lent_bytes (describe call).lent) ((describe call).does t)).answer
     by (refuses r e is) = rw e is
 
-group_refused : (t : List ℕ) (g : Group) (m : List ℕ) → running_at (working_memory m) ≡ 0 → NotAdmitted (number_of (group_step t g m).answer)
+group_refused : (t : List ℕ) (g : Group) (m : List ℕ) → running_at (working_memory m) ≡ 0 → NotAdmitted (group_step t g m).answer
 unfolding group_step
 group_refused t g m off = by (stopped_admission t m (leb area_size (length g.area)) off)
   where
-    by : Refuses (admission t m (leb area_size (length g.area))) → NotAdmitted (number_of (if_group_admitted (admission t m (leb area_size (length g.area))) t g m).answer)
+    by : Refuses (admission t m (leb area_size (length g.area))) → NotAdmitted (if_group_admitted (admission t m (leb area_size (length g.area))) t g m).answer
     by (refuses r e is) = rw e is
 
--- a sheet's begin and drain are refused with the layer's own number
-first_refused : (t m : List ℕ) (fits : Bool) (k : ℕ) → running_at (working_memory m) ≡ 0 → NotAdmitted (first_refusal (refusal t m fits) k)
-unfolding refusal
-first_refused t m fits k off = by (stopped_admission t m fits off)
-  where
-    by : Refuses (admission t m fits) → NotAdmitted (first_refusal (refusal_of (admission t m fits)) k)
-    by (refuses r e is) = rw (e, ne_eqb (number_of r) 0 (some (number_of r) is)) is
-      where
-        some : (n : ℕ) → NotAdmitted n → n ≡ 0 → ⊥
-        some n (inl a) e = omega (arith, a, e)
-        some n (inr (inl a)) e = omega (arith, a, e)
-        some n (inr (inr a)) e = omega (arith, a, e)
-
-begin_refused : (t : List ℕ) (g : BeginGiven) (m : List ℕ) → running_at (working_memory m) ≡ 0 → NotAdmitted (begun_by t g m).reply.number
-begin_refused t g m off = rw (begin_number_lem t g m) (first_refused t m _ _ off)
-
-drain_refused : (t : List ℕ) (d : DrainGiven) (m : List ℕ) → running_at (working_memory m) ≡ 0 → NotAdmitted (drained_by t d m).reply.number
-drain_refused t d m off = rw (drain_number_lem t d m) (first_refused t m _ _ off)
-
--- a layer that does not run admits no call but start, no group, no begin and no drain, whatever else memory holds
-pub stopped_refuses : (t : List ℕ) (x : Action) (m : List ℕ) → asks_running x ≡ true → running_at (working_memory m) ≡ 0 → NotAdmitted (number_by t x m)
+-- a layer that does not run admits no call but start, and no group, whatever else memory holds
+pub stopped_refuses : (t : List ℕ) (x : Action) (m : List ℕ) → asks_running x ≡ true → running_at (working_memory m) ≡ 0 → NotAdmitted (answer_of t x m)
 stopped_refuses t (single call) m asks off = call_refused t call m asks off
 stopped_refuses t (group g) m asks off = group_refused t g m off
-stopped_refuses t (begin_sheet g) m asks off = begin_refused t g m off
-stopped_refuses t (drain_sheet d) m asks off = drain_refused t d m off
 
 zeros_stopped : (n : ℕ) → running_at (working_memory (replicate n 0)) ≡ 0
 unfolding running_at number_at part value
 zeros_stopped zero = refl
 zeros_stopped (suc n) = refl
 
--- memory of zeros, of any length: every call but start, every group, begin and drain is refused
-pub zeros_refuse : (t : List ℕ) (x : Action) (n : ℕ) → asks_running x ≡ true → NotAdmitted (number_by t x (replicate n 0))
+-- memory of zeros, of any length: every call but start and every group is refused
+pub zeros_refuse : (t : List ℕ) (x : Action) (n : ℕ) → asks_running x ≡ true → NotAdmitted (answer_of t x (replicate n 0))
 zeros_refuse t x n asks = stopped_refuses t x (replicate n 0) asks (zeros_stopped n)

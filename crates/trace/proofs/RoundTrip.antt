@@ -2,14 +2,7 @@
 -- stored last unpacks to the low bits of its value, and an older one to its own bit wherever no value kept since covers it; and so a
 -- reading that is not covered arrives at a like object of another board that the frame is indicated to.
 -- Assumes: the table holds bytes, and arguments are of the types that the calls take (`Typed`, `TypedAction`).
-use mathlib.Core.Bool.{true, false}
-use mathlib.Core.List.{List, [], ◌∷◌}
-use mathlib.Core.Path.{◌≡◌, sym, ap, ◌∙◌}
-use Prim.Native.Nat.{ℕ, ◌*◌, ◌<◌}
-use native.Mathlib.Omega.{arith}
-use borrow.Author.Tests.{ne_eqb}
-use lib.Dec.{eqb}
-use lib.ListN.{length}
+use Rattle.std.proofs.Common.{true, false, List, [], ◌∷◌, ◌≡◌, sym, ap, ◌∙◌, ℕ, ◌*◌, ◌<◌, arith, ne_eqb, eqb, length}
 use Rattle.memory.specs.Bytes.{Bytes}
 use Rattle.memory.proofs.Parts.{part_length, part_bytes}
 use Rattle.bits.specs.Bits.{frame_bit}
@@ -26,7 +19,7 @@ use Rattle.calls.proofs.Records.{object_there, object_kind, ipdu_short}
 use Rattle.layer.specs.Admission.{working_memory}
 use Rattle.layer.specs.Step.{Call, start, indication, step}
 use Rattle.trace.specs.Book.{Entry, Book, unopened, sends, last_of, opened, advance, book_after, book_bit}
-use Rattle.trace.specs.Actions.{Action, single, group, begin_sheet, drain_sheet, leaves, group_sends, drain_calls, advance_by, memory_after_all, book_after_all}
+use Rattle.trace.specs.Actions.{Action, single, group, leaves, group_sends, advance_by, memory_after_all, book_after_all}
 use Rattle.trace.specs.Demand3.{Typed, ActionsTyped, done, word_of, frame, names, CallKept, AllKept, ActionKept, ActionsKept}
 use Rattle.trace.specs.RoundTrip.{reading_in, reading_of, LastReads, LastExact, OlderReads, ipdu_bytes, StoredLast, StoredExactly, StoredEarlier}
 use Rattle.trace.specs.RoundTrip.{FramesRead, AllRead, ActionRead, ActionsRead, Runs, memory_of, ActionsRun}
@@ -60,13 +53,11 @@ module _ (t : List ℕ) (c : Counts) (right : Right t c) where
     list_read calls (advance t c b call) (step t call m).memory (advance_full t c b full call) kept.1,
   )
 
-  -- ---- with groups and drains
+  -- ---- with groups
 
   action_read : (b : Book) (m : List ℕ) → Full t c b.entries → (x : Action) → ActionKept t c b x m → ActionRead t c b x m
   action_read b m full (single call) kept = call_read b full call (step t call m) kept
   action_read b m full (group g) kept = ((λ e. list_read (group_sends g) b m full (kept.sends e)), kept.frames)
-  action_read b m full (begin_sheet g) kept = tt
-  action_read b m full (drain_sheet d) kept = list_read (drain_calls t d m) b m full kept.calls
 
   actions_read : (xs : List Action) (b : Book) (m : List ℕ) → Full t c b.entries → ActionsKept t c b xs m → ActionsRead t c b xs m
   actions_read [] b m full kept = tt
@@ -75,7 +66,7 @@ module _ (t : List ℕ) (c : Counts) (right : Right t c) where
     actions_read xs (advance_by t c b x) (leaves t x m) (action_full t c b full x) kept.1,
   )
 
--- every list of actions that begins with an accepted start
+-- every list of calls and groups that begins with an accepted start
 pub frames_read : (t : List ℕ) → Bytes t → (xs : List Action) → ActionsTyped xs → (m : List ℕ) → done (step t start m) ≡ true
     → ActionsRead t (counts t) unopened (single start ∷ xs) m
 unfolding advance
@@ -148,7 +139,7 @@ stored_exactly t bt = exact t bt
 pub stored_earlier : (t : List ℕ) → Bytes t → StoredEarlier t
 stored_earlier t bt = older t bt
 
--- ---- a list with groups and drains
+-- ---- a list with groups
 
 -- the single calls that it stands for leave a running layer, over the memory of the list
 pub actions_run : (t : List ℕ) → Bytes t → (xs : List Action) → ActionsTyped xs → (m : List ℕ) → done (step t start m) ≡ true
@@ -156,10 +147,9 @@ pub actions_run : (t : List ℕ) → Bytes t → (xs : List Action) → ActionsT
 actions_run t bt xs y m e on =
     let c = counts t in
     let a = start_accepted t m e in
-    let n = (step t start m).memory in
     record {
-      runs = record { typed = expanded_typed t c xs (opened t c) n y; accepted = e; running = rw (expanded_book t c xs (opened t c) n) at on };
-      memory = expanded_memory t c a.table bt xs y (opened t c) n (start_follows t c a.table bt m a.long);
+      runs = record { typed = expanded_typed t c xs (opened t c) y; accepted = e; running = rw (expanded_book t c xs (opened t c)) at on };
+      memory = expanded_memory t c a.table bt xs y (opened t c) (step t start m).memory (start_follows t c a.table bt m a.long);
     }
 
 -- ---- two boards

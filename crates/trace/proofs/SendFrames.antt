@@ -1,17 +1,7 @@
 -- Send: each I-PDU that its word names was handed over as it stands in working memory. What it answers and leaves in memory does not
 -- depend on what the area held, nor on a value that is dropped where no object receives it inside.
 -- Assumes nothing.
-use mathlib.Core.Bool.{Bool, true, false, ◌&&◌}
-use mathlib.Core.List.{List}
-use mathlib.Core.Logic.{⊎_elim}
-use mathlib.Core.Path.{◌≡◌, refl, ap, ◌∙◌}
-use Prim.Native.Nat.{ℕ, ◌^◌, ◌≤◌, ◌<◌}
-use native.Mathlib.Nat.{zero-add}
-use native.Mathlib.Omega.{arith}
-use borrow.Author.Tests.{eqb-true}
-use lib.Pow.{pow_pos}
-use lib.Dec.{eqb}
-use lib.ListN.{length}
+use Rattle.std.proofs.Common.{Bool, true, false, ◌&&◌, List, ⊎_elim, ◌≡◌, refl, ap, ◌∙◌, ℕ, ◌^◌, ◌≤◌, ◌<◌, zero-add, arith, eqb-true, pow_pos, eqb, length}
 use Rattle.memory.specs.Search.{pick, fold}
 use Rattle.memory.proofs.Search.{picked, any_false, fold_view}
 use Rattle.memory.proofs.Tests.{true_or_false, true_not_false}
@@ -28,7 +18,6 @@ use Rattle.state.specs.Ranges.{Ready}
 use Rattle.message.specs.Objects.{object, passes_filter, deliver, pack}
 use Rattle.delivery.specs.Delivery.{inside_turn, deliver_inside}
 use Rattle.message.proofs.ObjectsInRange.{ready_pack}
-use Rattle.transmission.specs.Requests.{ipdu}
 use Rattle.calls.specs.declared.Answer.TheVariants.{Done}
 use Rattle.calls.specs.Answers.{Outcome, outcome, value_of}
 use Rattle.calls.specs.Calls.{is_object, wants, request, send_of, send_in}

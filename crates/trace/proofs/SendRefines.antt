@@ -1,13 +1,6 @@
 -- A kept value and a send keep working memory a refinement of the book of demand 3.
 -- Assumes nothing.
-use mathlib.Core.Bool.{Bool, true, false}
-use mathlib.Core.List.{List}
-use mathlib.Core.Logic.{inl, ⊎_elim}
-use mathlib.Core.Path.{◌≡◌, refl, sym, ap, ap₂, ◌∙◌}
-use Prim.Native.Nat.{ℕ, ◌+◌, ◌^◌, ◌≤◌, ◌<◌}
-use native.Mathlib.Omega.{arith}
-use borrow.Author.Tests.{eq-eqb, ne_eqb}
-use lib.ListN.{length}
+use Rattle.std.proofs.Common.{Bool, true, false, List, inl, ⊎_elim, ◌≡◌, refl, sym, ap, ap₂, ◌∙◌, ℕ, ◌+◌, ◌^◌, ◌≤◌, ◌<◌, arith, eq-eqb, ne_eqb, length, subst}
 use Rattle.memory.specs.Bytes.{value, part, number_at}
 use Rattle.memory.specs.Search.{pick}
 use Rattle.memory.proofs.Tests.{eq_or_ne, true_or_false}
@@ -76,7 +69,9 @@ module _ (t : List ℕ) (c : Counts) (b : Book) (m : List ℕ) (a : Refines t c 
         old = λ j low one.
             ap (λ (x : ObjectState). x.old) (pack_row (object t c i) v next (ready_placed t c next next_ready i h) j)
             ∙ ⊎_elim
-            (λ (e : j ≡ i). rw e (ap (λ (x : ObjectState). x.old) (row_own t c m a.ready i h s kept) ∙ old ∙ sym (last_own i v b.entries)))
+            (λ (e : j ≡ i).
+            let same : ℕ → Type 0 = λ k. (object_state (with_object_state m i s) k).old ≡ last_of k (enter i v b.entries) in
+            subst same (sym e) (ap (λ (x : ObjectState). x.old) (row_own t c m a.ready i h s kept) ∙ old ∙ sym (last_own i v b.entries)))
             (λ (ne : j ≡ i → ⊥).
             ap (λ (x : ObjectState). x.old) (row_other t c m a.ready i h s kept j ne) ∙ a.old j low one ∙ sym (last_other i j v b.entries ne))
             (eq_or_ne j i);

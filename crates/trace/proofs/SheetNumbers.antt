@@ -1,14 +1,6 @@
 -- The number that a begin or a drain answers: the layer's own, which is as the book has it, or else the objects'. It is no 6 where what it is
 -- lent fits. Assumes nothing.
-use mathlib.Core.Bool.{Bool, true, false, ◌&&◌, ◌||◌}
-use mathlib.Core.List.{List, []}
-use mathlib.Core.Logic.{⊎_elim}
-use mathlib.Core.Path.{◌≡◌, refl, ◌∙◌}
-use Prim.Native.Nat.{ℕ}
-use native.Mathlib.Omega.{arith}
-use borrow.Author.Tests.{eqb-true}
-use lib.Dec.{leb, ltb, eqb}
-use lib.ListN.{length}
+use Rattle.std.proofs.Common.{Bool, true, false, ◌&&◌, ◌||◌, List, [], ⊎_elim, ◌≡◌, refl, ℕ, arith, eqb-true, leb, ltb, eqb, length}
 use Rattle.memory.specs.Bytes.{Bytes}
 use Rattle.memory.specs.Search.{pick, any_below}
 use Rattle.memory.proofs.Tests.{true_or_false}
@@ -21,9 +13,9 @@ use Rattle.layer.specs.Promises.{refusal_of, refusal}
 use Rattle.layer.specs.Step.{send, receive, describe}
 use Rattle.sheet.specs.Layout.{most_followed, sheet_size, followed_at, objects_in, sheet_in_range}
 use Rattle.sheet.specs.Lines.{text_size}
-use Rattle.sheet.specs.Sheets.{wrong_object, stands_before, objects_refusal, first_refusal, BeginOutcome, begin_with, begin, DrainOutcome, drain_with, drain}
+use Rattle.sheet.specs.Sheets.{wrong_object, stands_before, objects_refusal, first_refusal, begin_with, begin, drain_with, drain}
 use Rattle.trace.specs.Book.{Book}
-use Rattle.trace.specs.Actions.{BeginGiven, DrainGiven, begun_by, drained_by}
+use Rattle.trace.specs.Drains.{BeginGiven, DrainGiven, begun_by, drained_by}
 use Rattle.trace.proofs.Steps.{Follows, admission_is}
 
 -- ---- by the number that refuses, if any

@@ -1,16 +1,9 @@
 -- Demand 3 (b) of begins and drains: over memories that are alike in the first 8,192 bytes they give the same, and a drain leaves such memories.
 -- Assumes: the table holds bytes.
-use mathlib.Core.Bool.{Bool, true, false, ◌&&◌, ◌||◌}
-use mathlib.Core.List.{List, [], ◌∷◌, ◌++◌}
-use mathlib.Core.Logic.{⊎_elim}
-use mathlib.Core.Path.{◌≡◌, refl, sym, ap, ap₂, fun_ext, subst, ◌∙◌}
-use Prim.Native.Nat.{ℕ, zero, suc, ◌+◌, ◌≤◌, ◌<◌}
-use native.Mathlib.Nat.{zero-add, add-zero, add-suc, suc-add}
-use native.Mathlib.Omega.{arith}
-use borrow.Author.Tests.{eqb-true, eqb-false}
-use lib.Dec.{leb, ltb, eqb}
-use lib.ListN.{length, get_or, set, take, drop, length-set}
-use lib.Seq.{sets, take_all, take-suc-set, take-append-le}
+use Rattle.std.proofs.Common.{Bool, true, false, ◌&&◌, ◌||◌, List, [], ◌∷◌, ◌++◌, ⊎_elim, ◌≡◌, refl, sym, ap, ap₂, ◌∙◌, ℕ, zero, suc, ◌+◌, ◌≤◌, ◌<◌, zero-add, add-zero, add-suc, suc-add, arith, eqb-true, leb, ltb, eqb, length, get_or, set, take, drop, length-set, take_all as take_whole, take-suc-set}
+use mathlib.Core.Path.{fun_ext}
+use borrow.Author.Tests.{eqb-false}
+use lib.Seq.{sets, take-append-le}
 use Rattle.memory.specs.Bytes.{Bytes}
 use Rattle.memory.specs.Search.{pick, any_below, fold}
 use Rattle.memory.proofs.Tests.{lt_or_le, true_or_false}
@@ -20,7 +13,7 @@ use Rattle.table.specs.Records.{counts, object_record}
 use Rattle.table.specs.Check.{check}
 use Rattle.queue.specs.Queues.{waiting}
 use Rattle.calls.specs.declared.Answer.{Answer}
-use Rattle.calls.specs.Answers.{Outcome, number_of, value_of}
+use Rattle.calls.specs.Answers.{number_of, value_of}
 use Rattle.layer.specs.declared.Reply.{Reply}
 use Rattle.layer.specs.Admission.{working_memory}
 use Rattle.layer.specs.Promises.{refusal, reply, received, status_read, marks_read, marks_cleared, waiting_for, reads_signed}
@@ -30,12 +23,13 @@ use Rattle.sheet.specs.Layout.{most_followed, sheet_size, followed_at, row_at, w
 use Rattle.sheet.specs.Numbers.{new_row, holds_error, with_replies}
 use Rattle.sheet.specs.Drains.{Taken, taken, and_then, take_up_to, take_all, Turn, drain_queue, see_marks, drain_object, Both, both, drain_turn, drain_each}
 use Rattle.sheet.specs.Lines.{text_size, row_lines}
-use Rattle.sheet.specs.Sheets.{wrong_object, stands_before, objects_refusal, first_refusal, BeginOutcome, sheet_head, new_turn, new_sheet, begin_with, begin, DrainOutcome, drain_with, drain}
+use Rattle.sheet.specs.Sheets.{wrong_object, stands_before, objects_refusal, first_refusal, sheet_head, new_turn, new_sheet, begin_with, begin, DrainOutcome, drain_with, drain}
 use Rattle.sheet.proofs.SheetRows.{row_length, head_length}
 use Rattle.sheet.proofs.Outcomes.{few_objects}
 use Rattle.trace.specs.Book.{Book}
-use Rattle.trace.specs.Actions.{BeginGiven, DrainGiven, begun_by, drained_by}
-use Rattle.trace.specs.Demand3.{same, SameBegin, SameDrain}
+use Rattle.trace.specs.Drains.{BeginGiven, DrainGiven, begun_by, drained_by}
+use Rattle.trace.specs.Demand3.{same}
+use Rattle.trace.specs.Drains.{SameBegin, SameDrain}
 use Rattle.trace.proofs.Steps.{Follows, step_follows}
 use Rattle.trace.proofs.Noninterference.{alike_step}
 use Rattle.trace.proofs.DrainCalls.{AboutObject, about_receive, about_status, about_marks, about_clear, about_typed, about_book, none_refuses}
@@ -49,7 +43,7 @@ set_front i a b x long e =
     (λ (low : i < length a).
     take-suc-set a i x low ∙ ap (λ (l : List ℕ). l ++ (x ∷ [])) e ∙ sym (take-suc-set b i x (omega (arith, low, long))))
     (λ (out : length a ≤ i).
-    let whole : a ≡ b = sym (take_all i a out) ∙ e ∙ take_all i b (omega (arith, out, long)) in
+    let whole : a ≡ b = sym (take_whole i a out) ∙ e ∙ take_whole i b (omega (arith, out, long)) in
     rw whole)
     (lt_or_le i (length a))
 

@@ -1,14 +1,7 @@
 -- What each call shows, one row for each: all that the claims over calls and lists of calls ask of it. A call added later adds its
 -- row to `shows`.
 -- Assumes nothing.
-use mathlib.Core.Bool.{Bool, true, false, not, ◌&&◌}
-use mathlib.Core.List.{List, []}
-use mathlib.Core.Logic.{⊎_elim}
-use mathlib.Core.Path.{◌≡◌, refl, ap, subst}
-use Prim.Native.Nat.{ℕ}
-use borrow.Author.Tests.{leb-true}
-use lib.Dec.{leb, ltb, eqb}
-use lib.ListN.{length}
+use Rattle.std.proofs.Common.{Bool, true, false, not, ◌&&◌, List, [], ⊎_elim, ◌≡◌, refl, ap, subst, ℕ, leb-true, leb, ltb, eqb, length}
 use Rattle.memory.specs.Bytes.{Bytes}
 use Rattle.memory.specs.Search.{pick}
 use Rattle.memory.proofs.Search.{picked}

@@ -1,13 +1,7 @@
 -- W-203: what `Filterings` reads off a call is what the layer does, of every object and filter: a value that is filtered leaves the row that
 -- the definition says, a call that filters none leaves the count, and of a send object the book judges alike.
 -- Assumes: the table holds bytes, and arguments are of the types that the calls take (`Typed`).
-use mathlib.Core.Bool.{Bool, true, false}
-use mathlib.Core.List.{List, []}
-use mathlib.Core.Path.{◌≡◌, refl, ap, ap₂}
-use Prim.Native.Nat.{ℕ, ◌<◌}
-use native.Mathlib.Omega.{arith}
-use borrow.Author.Tests.{ne_eqb}
-use lib.ListN.{length}
+use Rattle.std.proofs.Common.{Bool, true, false, List, [], ◌≡◌, refl, ap, ap₂, ℕ, ◌<◌, arith, ne_eqb, length}
 use Rattle.memory.specs.Bytes.{Bytes}
 use Rattle.memory.specs.Search.{pick}
 use Rattle.memory.proofs.Tests.{true_not_false}

@@ -1,15 +1,7 @@
 -- Any call, admitted or refused, from what its row shows: working memory follows the book, the slots that its word names hold the
 -- I-PDUs, and whether it is done follows from the book.
 -- Assumes: the table holds bytes, and arguments are of the types that the calls take (`Typed`).
-use mathlib.Core.Bool.{Bool, true, false, ◌&&◌}
-use mathlib.Core.List.{List, [], ◌∷◌, ◌++◌}
-use mathlib.Core.Logic.{⊎_elim}
-use mathlib.Core.Path.{◌≡◌, refl, sym, ap, subst, ◌∙◌}
-use Prim.Native.Nat.{ℕ, ◌≤◌}
-use native.Mathlib.Omega.{arith}
-use borrow.Author.Tests.{le-leb, leb-true, ne_eqb}
-use lib.Dec.{leb, eqb}
-use lib.ListN.{length, drop}
+use Rattle.std.proofs.Common.{Bool, true, false, ◌&&◌, List, [], ◌∷◌, ◌++◌, ⊎_elim, ◌≡◌, refl, sym, ap, subst, ◌∙◌, ℕ, ◌≤◌, arith, le-leb, leb-true, ne_eqb, leb, eqb, length, drop}
 use Rattle.memory.specs.Bytes.{Bytes}
 use Rattle.memory.specs.Search.{pick}
 use Rattle.memory.proofs.Tests.{true_or_false, true_not_false}

@@ -1,14 +1,7 @@
 -- Filterings in turn: a part of a row of them is in turn too, and of as many as the period exactly one passes.
 -- Assumes nothing.
-use mathlib.Core.Bool.{Bool, true, false}
-use mathlib.Core.List.{List, [], ◌∷◌, ◌++◌}
-use mathlib.Core.Path.{◌≡◌, refl, sym, ap, ◌∙◌}
-use Prim.Native.Nat.{ℕ, zero, suc, ◌+◌, ◌-◌, ◌%◌, ◌≤◌, ◌<◌}
-use native.Mathlib.Nat.{add-zero, zero-add, suc-add, mod-eq_of_lt, add-mod_right}
-use native.Mathlib.Omega.{arith}
-use borrow.Author.Tests.{eq-eqb, ne_eqb}
-use lib.Dec.{eqb}
-use lib.ListN.{length}
+use Rattle.std.proofs.Common.{Bool, true, false, List, [], ◌∷◌, ◌++◌, ◌≡◌, refl, sym, ap, ◌∙◌, ℕ, zero, suc, ◌+◌, ◌-◌, ◌%◌, ◌≤◌, ◌<◌, add-zero, zero-add, suc-add, mod-eq_of_lt, arith, eq-eqb, ne_eqb, eqb, length}
+use native.Mathlib.Nat.{add-mod_right}
 use Rattle.trace.specs.Filterings.{passed, turns}
 
 passed_join : (a b : List Bool) → passed (a ++ b) ≡ passed a + passed b

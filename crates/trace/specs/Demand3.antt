@@ -1,21 +1,19 @@
--- Demand 3, to the letter of document 01's "Demand 3's book": one claim over every list of calls, groups, begins and drains that begins
--- with an accepted start.
+-- Demand 3, to the letter of document 01's "Demand 3's book": one claim over every list of calls and groups that begins with an accepted
+-- start.
 -- Assumes nothing.
-use Rattle.std.specs.Prelude.{Bool, true, false, ◌&&◌, List, [], ◌∷◌, ◌⊎◌, ◌≡◌, ℕ, ◌*◌, ◌^◌, ◌<◌, eqb, length, take}
+use Rattle.std.specs.Prelude.{Bool, true, false, ◌&&◌, List, [], ◌∷◌, ◌⊎◌, ◌≡◌, ℕ, ◌*◌, ◌<◌, eqb, length}
 use Rattle.std.specs.Int.Bits.{bit_or}
-use Rattle.memory.specs.Bytes.{Bytes, part}
+use Rattle.memory.specs.Bytes.{part}
 use Rattle.memory.specs.Search.{any_below}
 use Rattle.bits.specs.Bits.{bit, frame_bit}
 use Rattle.table.specs.declared.Counts.{Counts}
 use Rattle.table.specs.Records.{receiving, sending, counts, ipdu_record, object_record}
 use Rattle.calls.specs.declared.Answer.{Answer}
 use Rattle.calls.specs.Answers.{Outcome, number_of, value_of}
-use Rattle.layer.specs.Step.{Call, start, send, tick, Lent, no_area, requests, lent_bytes, Told, told_start, told_stop, told_send, told_initialise, told_nothing, describe, step, run, memory_after}
+use Rattle.layer.specs.Step.{Call, start, send, tick, Lent, no_area, requests, lent_bytes, Told, told_start, told_stop, told_send, told_initialise, told_nothing, describe, step, run}
 use Rattle.group.specs.Groups.{Group, GroupOutcome, group_step}
 use Rattle.trace.specs.Book.{Book, unopened, keeps, accepts, advance, book_bit}
-use Rattle.sheet.specs.Layout.{sheet_size}
-use Rattle.sheet.specs.Sheets.{BeginOutcome, DrainOutcome}
-use Rattle.trace.specs.Actions.{BeginGiven, DrainGiven, Action, single, group, begin_sheet, drain_sheet, begun_by, drained_by, leaves, group_sends, drain_calls, accepts_group, advance_by}
+use Rattle.trace.specs.Actions.{Action, single, group, leaves, group_sends, accepts_group, advance_by}
 -- ---- calls and lists of them
 
 -- whose arguments are of the types that a call takes
@@ -25,12 +23,10 @@ abbrev pub AllTyped : List Call → Type 0
 AllTyped [] = Unit {0}
 AllTyped (call ∷ calls) = Typed call × AllTyped calls
 
--- of an action: a group is given values of 32 bits; areas, status lists, sheets and texts may hold anything
+-- of an action: a group is given values of 32 bits; its area and status list may hold anything
 abbrev pub TypedAction : Action → Type 0
 TypedAction (single call) = Typed call
 TypedAction (group g) = AllTyped (group_sends g)
-TypedAction (begin_sheet g) = Unit {0}
-TypedAction (drain_sheet d) = Unit {0}
 
 abbrev pub ActionsTyped : List Action → Type 0
 ActionsTyped [] = Unit {0}
@@ -106,17 +102,9 @@ pub record GroupKept (t : List ℕ) (c : Counts) (b : Book) (g : Group) (m : Lis
   pub word : accepts_group b g ≡ true → value_of o.answer ≡ words_joined 0 (run t (group_sends g) m)
   pub frames : (k : ℕ) → names (value_of o.answer) k → HandedOver t k (frame t k o.area) (run t (group_sends g) m)
 
--- a drain: each of its receives, marks and clear marks is kept, one after the other, and it leaves the memory that they leave
-pub record DrainKept (t : List ℕ) (c : Counts) (b : Book) (d : DrainGiven) (m : List ℕ) (o : DrainOutcome) : Type 0 where
-  pub calls : AllKept t c b (drain_calls t d m) m
-  pub memory : o.memory ≡ memory_after t (drain_calls t d m) m
-
--- a begin leaves memory, and hands over nothing
 abbrev pub ActionKept : List ℕ → Counts → Book → Action → List ℕ → Type 0
 ActionKept t c b (single call) m = CallKept t c b call (step t call m)
 ActionKept t c b (group g) m = GroupKept t c b g m (group_step t g m)
-ActionKept t c b (begin_sheet g) m = Unit {0}
-ActionKept t c b (drain_sheet d) m = DrainKept t c b d m (drained_by t d m)
 
 -- every action of a list
 abbrev pub ActionsKept : List ℕ → Counts → Book → List Action → List ℕ → Type 0
@@ -150,13 +138,10 @@ pub record SameShape (g h : Group) : Type 0 where
   pub statuses : length g.statuses ≡ length h.statuses
   pub whole : g.pairs.whole ≡ h.pairs.whole
 
--- two actions alike: calls that are, groups of one shape whose sends are, begins for the same objects of sheets of one length, drains of
--- the same sheet into texts of one length
+-- two actions alike: calls that are, or groups of one shape whose sends are
 pub data AlikeAction (t : List ℕ) (c : Counts) (b d : Book) (x y : Action) : Type 0 where
   alike_calls : (p q : Call) → x ≡ single p → y ≡ single q → Alike t c b d p q → AlikeAction t c b d x y
   alike_groups : (g h : Group) → x ≡ group g → y ≡ group h → SameShape g h → AllAlike t c b d (group_sends g) (group_sends h) → AlikeAction t c b d x y
-  alike_begins : (g h : BeginGiven) → x ≡ begin_sheet g → y ≡ begin_sheet h → g.objects ≡ h.objects → length g.sheet ≡ length h.sheet → AlikeAction t c b d x y
-  alike_drains : (e f : DrainGiven) → x ≡ drain_sheet e → y ≡ drain_sheet f → e.sheet ≡ f.sheet → length e.text ≡ length f.text → AlikeAction t c b d x y
 
 abbrev pub ActionsAlike : List ℕ → Counts → Book → Book → List Action → List Action → Type 0
 ActionsAlike t c b d [] [] = Unit {0}
@@ -185,23 +170,11 @@ pub record SameGroup (t : List ℕ) (o p : GroupOutcome) : Type 0 where
   pub statuses : number_of o.answer ≡ 0 → o.statuses ≡ p.statuses
   pub frames : (k : ℕ) → names (value_of o.answer) k → frame t k o.area ≡ frame t k p.area
 
--- a begin: the same number and value and, where it is done, the same sheet
-pub record SameBegin (o p : BeginOutcome) : Type 0 where
-  pub reply : o.reply ≡ p.reply
-  pub sheet : o.reply.number ≡ 0 → take sheet_size o.sheet ≡ take sheet_size p.sheet
-
--- a drain: the same number and value, the same sheet and, where it is done, the same lines
-pub record SameDrain (o p : DrainOutcome) : Type 0 where
-  pub reply : o.reply ≡ p.reply
-  pub sheet : o.sheet ≡ p.sheet
-  pub lines : o.reply.number ≡ 0 → take o.reply.value o.text ≡ take p.reply.value p.text
-
--- of two actions of one kind
 abbrev pub SameAction : List ℕ → Action → Action → List ℕ → List ℕ → Type 0
-SameAction t (single x) a m n = (y : Call) → a ≡ single y → SameAnswer t x y (step t x m) (step t y n)
-SameAction t (group g) a m n = (h : Group) → a ≡ group h → SameGroup t (group_step t g m) (group_step t h n)
-SameAction t (begin_sheet g) a m n = (h : BeginGiven) → a ≡ begin_sheet h → SameBegin (begun_by t g m) (begun_by t h n)
-SameAction t (drain_sheet d) a m n = (e : DrainGiven) → a ≡ drain_sheet e → SameDrain (drained_by t d m) (drained_by t e n)
+SameAction t (single x) (single y) m n = SameAnswer t x y (step t x m) (step t y n)
+SameAction t (single x) (group h) m n = ⊥
+SameAction t (group g) (single y) m n = ⊥
+SameAction t (group g) (group h) m n = SameGroup t (group_step t g m) (group_step t h n)
 
 abbrev pub ActionsSame : List ℕ → List Action → List Action → List ℕ → List ℕ → Type 0
 ActionsSame t [] [] m n = Unit {0}

@@ -1,5 +1,5 @@
--- W-203: which filterings of an object passed, read off a list of calls, groups, begins and drains; of any N in a row of an object with
--- filter 14 and period N exactly one did.
+-- W-203: which filterings of an object passed, read off a list of calls and groups; of any N in a row of an object with filter 14 and
+-- period N exactly one did.
 -- Assumes nothing.
 use Rattle.std.specs.Prelude.{Bool, true, false, ◌&&◌, ◌||◌, List, [], ◌∷◌, ◌++◌, ◌≡◌, ℕ, zero, suc, ◌+◌, ◌%◌, ◌<◌, eqb, length}
 use Rattle.memory.specs.Search.{pick}
@@ -13,7 +13,7 @@ use Rattle.layer.specs.Admission.{working_memory}
 use Rattle.layer.specs.Step.{Call, start, stop, send, initialise, receive, status, marks, clear_marks, start_periodic, stop_periodic, indication, confirm, tick, step}
 use Rattle.group.specs.Groups.{group_step}
 use Rattle.trace.specs.Book.{sends, opened, keeps}
-use Rattle.trace.specs.Actions.{Action, single, group, begin_sheet, drain_sheet, leaves, group_sends, drain_calls, memory_after_all, book_after_all}
+use Rattle.trace.specs.Actions.{Action, single, group, leaves, group_sends, memory_after_all, book_after_all}
 use Rattle.trace.specs.Demand3.{Typed, ActionsTyped, done}
 use Rattle.trace.specs.RoundTrip.{reading_in}
 
@@ -54,12 +54,10 @@ abbrev pub filtered_in : List ℕ → ℕ → List Call → List ℕ → List Bo
 filtered_in t i [] m = []
 filtered_in t i (call ∷ calls) m = filtered_by t i call m ++ filtered_in t i calls (step t call m).memory
 
--- a group filters as its sends do, a refused one nothing; a drain as the calls that it makes, a begin nothing
+-- a group filters as its sends do, a refused one nothing
 abbrev pub action_filters : List ℕ → ℕ → Action → List ℕ → List Bool
 action_filters t i (single call) m = filtered_by t i call m
 action_filters t i (group g) m = pick (eqb (number_of (group_step t g m).answer) 0) (filtered_in t i (group_sends g) m) []
-action_filters t i (begin_sheet g) m = []
-action_filters t i (drain_sheet d) m = filtered_in t i (drain_calls t d m) m
 
 abbrev pub filterings : List ℕ → ℕ → List Action → List ℕ → List Bool
 filterings t i [] m = []

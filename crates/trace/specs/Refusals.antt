@@ -1,10 +1,11 @@
 -- Demand 1 over calls and lists of calls: what a refused call leaves, when 6 is answered, and memory that was never started.
 -- Assumes nothing.
 use Rattle.std.specs.Prelude.{true, List, [], ◌∷◌, ◌⊎◌, ◌≡◌, ℕ}
+use Rattle.calls.specs.declared.Answer.{Answer}
 use Rattle.calls.specs.Answers.{Outcome, number_of}
 use Rattle.layer.specs.Step.{Call, receive}
 use Rattle.group.specs.Groups.{Group, GroupOutcome}
-use Rattle.trace.specs.Actions.{Action, number_by, leaves, lent_fits}
+use Rattle.trace.specs.Actions.{Action, answer_of, leaves, area_fits}
 
 -- ---- a refused call leaves all lent bytes
 
@@ -25,13 +26,13 @@ pub record GroupUnchanged (found : List ℕ) (g : Group) (o : GroupOutcome) : Ty
 
 -- ---- 6 for a range is never answered after a start
 
--- no action of the list answers 6, but for a request area, sheet or text that is too short, or a sheet out of range
+-- no action of the list answers 6, but for a request area that is too short
 abbrev pub Never6 : List ℕ → List Action → List ℕ → Type 0
 Never6 t [] m = Unit {0}
-Never6 t (x ∷ xs) m = (lent_fits x ≡ true → number_by t x m ≡ 6 → ⊥) × Never6 t xs (leaves t x m)
+Never6 t (x ∷ xs) m = (area_fits x ≡ true → number_of (answer_of t x m) ≡ 6 → ⊥) × Never6 t xs (leaves t x m)
 
 -- ---- a layer that was never started does not run
 
--- refused before anything else is looked at: 5 for the table, 6 for memory, what else is lent or a range, 7 for a stopped layer
-abbrev pub NotAdmitted : ℕ → Type 0
-NotAdmitted n = (n ≡ 5) ⊎ ((n ≡ 6) ⊎ (n ≡ 7))
+-- refused before anything else is looked at: 5 for the table, 6 for memory, area or a range, 7 for a stopped layer
+abbrev pub NotAdmitted : Answer → Type 0
+NotAdmitted a = (number_of a ≡ 5) ⊎ ((number_of a ≡ 6) ⊎ (number_of a ≡ 7))

@@ -18,7 +18,7 @@ use Rattle.layer.specs.Admission.{working_memory}
 use Rattle.layer.specs.Step.{Call, start, receive, step, run, memory_after}
 use Rattle.group.specs.Groups.{group_step}
 use Rattle.trace.specs.Book.{Entry, Book, sends, last_of, opened, advance, book_after, owns_ipdu_bit}
-use Rattle.trace.specs.Actions.{Action, single, group, begin_sheet, drain_sheet, leaves, group_sends, drain_calls, accepts_group, advance_by, expanded, memory_after_all, book_after_all}
+use Rattle.trace.specs.Actions.{Action, single, group, leaves, group_sends, accepts_group, advance_by, expanded, memory_after_all, book_after_all}
 use Rattle.trace.specs.Demand3.{AllTyped, ActionsTyped, done, word_of, frame, names, HandedOver}
 
 -- ---- readings in the bytes of an I-PDU
@@ -97,14 +97,12 @@ abbrev pub AllRead : List ℕ → Counts → Book → List Call → List ℕ →
 AllRead t c b [] m = Unit {0}
 AllRead t c b (call ∷ calls) m = FramesRead t c b call (step t call m) × AllRead t c (advance t c b call) calls (step t call m).memory
 
--- so it is of a group's sends, and each frame that the group hands over is one of theirs; of a drain's calls, which hand over none
+-- so it is of a group's sends, and each frame that the group hands over is one of theirs
 abbrev pub ActionRead : List ℕ → Counts → Book → Action → List ℕ → Type 0
 ActionRead t c b (single call) m = FramesRead t c b call (step t call m)
 ActionRead t c b (group g) m =
     (accepts_group b g ≡ true → AllRead t c b (group_sends g) m)
     × ((k : ℕ) → names (value_of (group_step t g m).answer) k → HandedOver t k (frame t k (group_step t g m).area) (run t (group_sends g) m))
-ActionRead t c b (begin_sheet g) m = Unit {0}
-ActionRead t c b (drain_sheet d) m = AllRead t c b (drain_calls t d m) m
 
 abbrev pub ActionsRead : List ℕ → Counts → Book → List Action → List ℕ → Type 0
 ActionsRead t c b [] m = Unit {0}
@@ -122,14 +120,10 @@ pub record Runs (t : List ℕ) (calls : List Call) (m : List ℕ) : Type 0 where
 abbrev pub memory_of : List ℕ → List Call → List ℕ → List ℕ
 memory_of t calls m = memory_after t (start ∷ calls) m
 
--- the single calls that a list stands for, behind an accepted start
-abbrev pub calls_behind : List ℕ → List Action → List ℕ → List Call
-calls_behind t xs m = expanded t (counts t) (opened t (counts t)) xs (step t start m).memory
-
--- a layer that runs after a list with groups and drains: so it does after those calls, with the same working memory
+-- a layer that runs after a list with groups: so it does after the single calls that the list stands for, with the same working memory
 pub record ActionsRun (t : List ℕ) (xs : List Action) (m : List ℕ) : Type 0 where
-  pub runs : Runs t (calls_behind t xs m) m
-  pub memory : memory_after_all t (single start ∷ xs) m ≡ memory_of t (calls_behind t xs m) m
+  pub runs : Runs t (expanded t (counts t) (opened t (counts t)) xs) m
+  pub memory : memory_after_all t (single start ∷ xs) m ≡ memory_of t (expanded t (counts t) (opened t (counts t)) xs) m
 
 -- there is a receive object of this number, and its filter passes the value
 pub record Takes (t : List ℕ) (j v : ℕ) (m : List ℕ) : Type 0 where
