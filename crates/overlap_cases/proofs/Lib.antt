@@ -1,1 +1,2 @@
+use Rattle.std.proofs.Common.{ap}
 pub mod OverlapCases

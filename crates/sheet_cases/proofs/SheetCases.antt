@@ -1,7 +1,6 @@
 -- The examples of W-206, proved by computation from the definitions.
 -- Assumes nothing.
-use mathlib.Core.List.{[]}
-use mathlib.Core.Path.{◌≡◌, refl}
+use Rattle.std.proofs.Common.{[], ◌≡◌, refl}
 use Rattle.memory.specs.Texts.{decimal}
 use Rattle.memory.specs.Integers.{integer, less_than}
 use Rattle.config.specs.Decode.{is_signed}

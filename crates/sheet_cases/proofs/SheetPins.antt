@@ -1,11 +1,6 @@
 -- `journey_numbers` cannot be emptied: its premises hold of a journey with calls between two drains, and a row comes out of it.
 -- Assumes nothing.
-use mathlib.Core.Bool.{false}
-use mathlib.Core.List.{List, [], ◌∷◌}
-use mathlib.Core.Path.{◌≡◌, refl, ap, ◌∙◌}
-use Prim.Native.Nat.{ℕ, zero, suc, ◌^◌, ◌<◌}
-use native.Mathlib.Omega.{arith}
-use lib.ListN.{get_or, replicate}
+use Rattle.std.proofs.Common.{false, List, [], ◌∷◌, ◌≡◌, refl, ap, ◌∙◌, ℕ, zero, suc, ◌^◌, ◌<◌, arith, get_or, replicate}
 use Rattle.memory.specs.Bytes.{Bytes, bytes_of}
 use Rattle.memory.specs.Integers.{integer, less_than}
 use Rattle.memory.proofs.Tests.{tested}

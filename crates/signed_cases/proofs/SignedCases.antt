@@ -1,6 +1,6 @@
 -- The examples of W-207, proved by computation from the definitions.
 -- Assumes nothing.
-use mathlib.Core.Path.{refl}
+use Rattle.std.proofs.Common.{refl}
 use Rattle.memory.specs.Integers.{integer}
 use Rattle.bits.specs.Bits.{bit, number, extended}
 use Rattle.cases.specs.Case.{AllHold}

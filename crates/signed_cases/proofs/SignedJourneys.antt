@@ -1,10 +1,5 @@
 -- The journey of W-207, by computation; and a row of a signed object from `journey_numbers` itself. Assumes nothing.
-use mathlib.Core.Bool.{true}
-use mathlib.Core.List.{List, [], ◌∷◌}
-use mathlib.Core.Path.{◌≡◌, refl, ◌∙◌}
-use Prim.Native.Nat.{ℕ, zero, suc, ◌^◌, ◌<◌}
-use native.Mathlib.Omega.{arith}
-use lib.ListN.{get_or, replicate}
+use Rattle.std.proofs.Common.{true, List, [], ◌∷◌, ◌≡◌, refl, ◌∙◌, ℕ, zero, suc, ◌^◌, ◌<◌, arith, get_or, replicate}
 use Rattle.memory.specs.Bytes.{Bytes, bytes_of}
 use Rattle.memory.specs.Integers.{integer, less_than}
 use Rattle.memory.proofs.Tests.{tested}

@@ -1,11 +1,6 @@
 -- The claims of W-207 cannot be emptied: from the theorems themselves a value below zero that is read back, one that is not, and one that another
 -- board receives. Assumes nothing.
-use mathlib.Core.Bool.{true}
-use mathlib.Core.List.{List, [], ◌∷◌}
-use mathlib.Core.Path.{◌≡◌, refl}
-use Prim.Native.Nat.{ℕ}
-use native.Mathlib.Omega.{arith}
-use lib.ListN.{replicate}
+use Rattle.std.proofs.Common.{true, List, [], ◌∷◌, ◌≡◌, refl, ℕ, arith, replicate, false, not}
 use Rattle.memory.specs.Bytes.{Bytes, value, bytes_of, part, number_at}
 use Rattle.memory.specs.Integers.{integer, less_than}
 use Rattle.memory.proofs.Tests.{tested, true_not_false}
