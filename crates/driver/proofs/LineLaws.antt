@@ -1,10 +1,5 @@
 -- The end of a line: its call is made and printed, or it can't be read. What the functions that end a line cite. Assumes nothing.
-use mathlib.Core.Bool.{true, false}
-use mathlib.Core.List.{List, ◌++◌}
-use mathlib.Core.Path.{◌≡◌, sym, ap, ◌∙◌, subst}
-use Prim.Native.Nat.{ℕ, ◌+◌, ◌≤◌}
-use native.Mathlib.Omega.{arith}
-use lib.ListN.{length, take, drop}
+use Rattle.std.proofs.Common.{true, false, List, ◌++◌, ◌≡◌, sym, ap, ◌∙◌, subst, ℕ, ◌+◌, ◌≤◌, arith, length, take, drop}
 use lib.Seq.{sets, sets-eq, take-append_seam}
 use Rattle.memory.specs.Texts.{Put}
 use Rattle.script.specs.declared.Command.{Command}

@@ -1,15 +1,7 @@
 -- A part that is run line by line: what holds between two lines (`SoFar`), that each line keeps it, and that it ends in `Ran`.
 -- Assumes nothing.
-use mathlib.Core.Bool.{Bool, true, false, not, ◌&&◌}
-use mathlib.Core.List.{List}
-use mathlib.Core.Logic.{◌⊎◌, inl, inr, ⊎_elim}
-use mathlib.Core.Path.{◌≡◌, refl, sym, ap, ◌∙◌, subst}
-use Prim.Native.Nat.{ℕ, suc, ◌+◌, ◌-◌, ◌≤◌, ◌<◌}
-use native.Mathlib.Omega.{arith}
-use borrow.Author.Tests.{ltb-true, ltb-false, leb-true, leb-false, not-true}
-use lib.Dec.{ltb, leb}
-use lib.ListN.{length, take, drop, get_or}
-use lib.Seq.{take-suc, take-add}
+use Rattle.std.proofs.Common.{Bool, true, false, not, ◌&&◌, List, ◌⊎◌, inl, inr, ⊎_elim, ◌≡◌, refl, sym, ap, ◌∙◌, subst, ℕ, suc, ◌+◌, ◌-◌, ◌≤◌, ◌<◌, arith, ltb-true, ltb-false, leb-true, leb-false, ltb, leb, length, take, drop, get_or, take-suc, take-add}
+use borrow.Author.Tests.{not-true}
 use Rattle.memory.specs.Search.{pick}
 use Rattle.memory.specs.Texts.{line_feed, Put}
 use Rattle.memory.proofs.Search.{picked}
@@ -178,7 +170,7 @@ module _ (at n room : ℕ) (run : Run) {r : Bool} (answers : r ≡ (not run.prog
       let on = and_split (not run.progress.ended) (leb (run.written + longest_line) room) (sym answers ∙ both.1) in
       record {
         low = ltb-true at n both.0;
-        going = on.0;
+        going = not-true run.progress.ended on.0;
         room_left = leb-true (run.written + longest_line) room on.1;
       }
 

@@ -27,8 +27,8 @@ pub record Ran (t script : List ℕ) (p : Progress) (m area out m' area' out' : 
 
 -- ---- how the functions of the run are held to it
 
-abbrev pub run_as : Progress → Ground → ℕ → Run
-run_as p ground written = record { progress = p; ground = ground; written = written }
+abbrev pub run_as : (p : Progress) (ground : Ground) (written : ℕ) → Run
+run_as p known written = record { progress = p; ground = known; written = written }
 
 abbrev pub run_with_reader : Run → Reader → Run
 run_with_reader r reader = run_as (progress_as reader r.progress.line r.progress.ended) r.ground r.written
