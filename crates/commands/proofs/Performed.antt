@@ -1,6 +1,7 @@
 -- A command's call: what it does itself, admitted or refused. The laws ask for plain values, so that a search finds them.
 -- Assumes nothing.
-use Rattle.std.proofs.Common.{Bool, true, false, not, ◌&&◌, ◌||◌, List, [], ◌∷◌, ◌++◌, ◌≡◌, refl, sym, ap, ◌∙◌, ℕ, ◌^◌, ◌≤◌, ◌<◌, arith, leb-true, le-leb, eq-eqb, ne_eqb, leb, eqb, length, drop, get_or-take}
+use Rattle.std.proofs.Common.{Bool, true, false, not, ◌&&◌, ◌||◌, List, [], ◌∷◌, ◌++◌, ◌≡◌, refl, sym, ap, ◌∙◌, ℕ, ◌^◌, ◌≤◌, ◌<◌, arith, leb-true}
+use Rattle.std.proofs.Common.{le-leb, eq-eqb, ne_eqb, leb, eqb, length, drop, get_or-take}
 use Rattle.memory.specs.Bytes.{Bytes, number_at}
 use Rattle.memory.specs.Search.{pick}
 use Rattle.memory.specs.Texts.{line_feed, digit_of}

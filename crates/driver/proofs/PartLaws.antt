@@ -1,5 +1,6 @@
 -- What the functions that run a part cite: laws over plain values. Assumes nothing.
-use Rattle.std.proofs.Common.{Bool, true, false, not, ◌&&◌, ◌||◌, List, [], ◌∷◌, ◌++◌, ⊎_elim, ◌≡◌, refl, ap, ◌∙◌, ℕ, suc, ◌+◌, ◌-◌, ◌^◌, ◌≤◌, ◌<◌, arith, lt-ltb, le-ltb, le-leb, ne_eqb, leb, length, take, drop, get_or, length-drop, take-suc, get_or-drop}
+use Rattle.std.proofs.Common.{Bool, true, false, not, ◌&&◌, ◌||◌, List, [], ◌∷◌, ◌++◌, ⊎_elim, ◌≡◌, refl, ap, ◌∙◌, ℕ, suc, ◌+◌, ◌-◌, ◌^◌, ◌≤◌, ◌<◌}
+use Rattle.std.proofs.Common.{arith, lt-ltb, le-ltb, le-leb, ne_eqb, leb, length, take, drop, get_or, length-drop, take-suc, get_or-drop}
 use borrow.Author.Tests.{lt-leb}
 use Rattle.memory.specs.Search.{pick}
 use Rattle.memory.specs.Texts.{line_feed, Put}

@@ -1,6 +1,7 @@
 -- A part that is run line by line: what holds between two lines (`SoFar`), that each line keeps it, and that it ends in `Ran`.
 -- Assumes nothing.
-use Rattle.std.proofs.Common.{Bool, true, false, not, ◌&&◌, List, ◌⊎◌, inl, inr, ⊎_elim, ◌≡◌, refl, sym, ap, ◌∙◌, subst, ℕ, suc, ◌+◌, ◌-◌, ◌≤◌, ◌<◌, arith, ltb-true, ltb-false, leb-true, leb-false, ltb, leb, length, take, drop, get_or, take-suc, take-add}
+use Rattle.std.proofs.Common.{Bool, true, false, not, ◌&&◌, List, ◌⊎◌, inl, inr, ⊎_elim, ◌≡◌, refl, sym, ap, ◌∙◌, subst, ℕ, suc, ◌+◌, ◌-◌, ◌≤◌, ◌<◌}
+use Rattle.std.proofs.Common.{arith, ltb-true, ltb-false, leb-true, leb-false, ltb, leb, length, take, drop, get_or, take-suc, take-add}
 use borrow.Author.Tests.{not-true}
 use Rattle.memory.specs.Search.{pick}
 use Rattle.memory.specs.Texts.{line_feed, Put}

@@ -1,6 +1,8 @@
 -- The requests that a word names, and how long their texts are. The laws ask for plain values, so that a search finds them.
 -- Assumes nothing.
-use Rattle.std.proofs.Common.{true, false, ◌&&◌, List, [], ◌∷◌, ◌++◌, append-nil, ⊎_elim, ◌≡◌, sym, ap, ◌∙◌, ℕ, zero, suc, ◌+◌, ◌-◌, ◌*◌, ◌/◌, ◌%◌, ◌^◌, ◌≤◌, ◌<◌, zero-le, add-one, arith, ltb-true, ltb-false, lt-ltb, eq-eqb, ne_eqb, ltb, eqb, length, set, length-append, shr-shr}
+use Rattle.std.proofs.Common.{true, false, ◌&&◌, List, [], ◌∷◌, ◌++◌, append-nil, ⊎_elim, ◌≡◌, sym, ap, ◌∙◌, ℕ, zero, suc, ◌+◌, ◌-◌, ◌*◌, ◌/◌, ◌%◌}
+use Rattle.std.proofs.Common.{◌^◌, ◌≤◌, ◌<◌, zero-le, add-one, arith, ltb-true, ltb-false, lt-ltb, eq-eqb, ne_eqb, ltb, eqb, length, set}
+use Rattle.std.proofs.Common.{length-append, shr-shr}
 use native.Mathlib.Nat.{zero-div}
 use Rattle.memory.specs.Bytes.{part}
 use Rattle.memory.specs.Search.{pick}
