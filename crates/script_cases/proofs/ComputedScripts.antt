@@ -1,8 +1,5 @@
 -- A case of a script is computed by the fast step of crates/cases. Assumes nothing.
-use mathlib.Core.List.{List, [], ◌∷◌, ◌++◌}
-use mathlib.Core.Path.{◌≡◌, refl, ap, ◌∙◌}
-use Prim.Native.Nat.{ℕ, suc}
-use lib.ListN.{replicate}
+use Rattle.std.proofs.Common.{List, [], ◌∷◌, ◌++◌, ◌≡◌, refl, ap, ◌∙◌, ℕ, suc, replicate}
 use Rattle.state.specs.Layout.{memory_size, area_size}
 use Rattle.calls.specs.Answers.{Outcome}
 use Rattle.layer.specs.Step.{start, stop, step}

@@ -1,5 +1,5 @@
 -- The cases of W-201, as one statement over the list, proved by computation from the definitions. Assumes nothing.
-use mathlib.Core.Path.{refl}
+use Rattle.std.proofs.Common.{refl}
 use Rattle.memory.specs.Texts.{decimal}
 use Rattle.memory.specs.Integers.{integer}
 use Rattle.config.specs.Decode.{is_signed}
