@@ -1,6 +1,7 @@
 -- Laws of signed messages (W-207): what the extension of a message comes to, that it fits 32 bits, and when a stored value is read back.
 -- Assumes nothing.
-use Rattle.std.proofs.Common.{◌≡◌, ℕ, zero, suc, ◌+◌, ◌-◌, ◌*◌, ◌/◌, ◌%◌, ◌^◌, ◌<◌, ◌≤◌, Bool, true, false, eqb, ltb, leb, List, length, pos, negsuc, neg_ℤ, sym, refl, ap, ◌∙◌, ⊎_elim, zero-le, lt_of_lt_of_le, add-zero, mod-lt, mod-eq_of_lt, mul_comm, arith, pow_pos, pow_mono, le-ltb, lt-ltb, eq-eqb, ne_eqb, eqb-true, le-leb}
+use Rattle.std.proofs.Common.{◌≡◌, ℕ, zero, suc, ◌+◌, ◌-◌, ◌*◌, ◌/◌, ◌%◌, ◌^◌, ◌<◌, ◌≤◌, Bool, true, false, eqb, ltb, leb, List, length, pos, negsuc, neg_ℤ, sym, refl, ap, ◌∙◌}
+use Rattle.std.proofs.Common.{⊎_elim, zero-le, lt_of_lt_of_le, add-zero, mod-lt, mod-eq_of_lt, mul_comm, arith, pow_pos, pow_mono, le-ltb, lt-ltb, eq-eqb, ne_eqb, eqb-true, le-leb}
 use native.Mathlib.Nat.{pow-succ', add-mul-mod_self_left}
 use borrow.Author.Tests.{lt-leb}
 use lib.Dec.{leb-suc-suc}

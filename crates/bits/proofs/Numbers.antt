@@ -1,6 +1,7 @@
 -- Laws of `bit` and `number`: a number is its bits.
 -- Assumes nothing.
-use Rattle.std.proofs.Common.{◌≡◌, ℕ, zero, suc, ◌+◌, ◌-◌, ◌*◌, ◌/◌, ◌%◌, ◌^◌, ◌<◌, ◌≤◌, max, ◌⊎◌, sym, refl, ap, ◌∙◌, inl, inr, ⊎_elim, le_of_suc-le-suc, not-suc-le-zero, mod-eq_of_lt, zero-lt-suc, mul_assoc, mul_comm, zero-add, mul-one, arith, pow_pos, shr-shr, bit_or}
+use Rattle.std.proofs.Common.{◌≡◌, ℕ, zero, suc, ◌+◌, ◌-◌, ◌*◌, ◌/◌, ◌%◌, ◌^◌, ◌<◌, ◌≤◌, max, ◌⊎◌, sym, refl, ap, ◌∙◌, inl, inr, ⊎_elim, le_of_suc-le-suc, not-suc-le-zero}
+use Rattle.std.proofs.Common.{mod-eq_of_lt, zero-lt-suc, mul_assoc, mul_comm, zero-add, mul-one, arith, pow_pos, shr-shr, bit_or}
 use native.Mathlib.Nat.{pow-succ', div-div-eq-div-mul, add-mul-div_left, add-mul-mod_self_left, mod-add-div}
 use native.Mathlib.Nat.{div-eq_of_lt, zero-div}
 use lib.Bits.{or_shr, or_step}

@@ -1,6 +1,7 @@
 -- The laws of packing that callers cite: the stored reading, every other bit, the round trip; and that a slot's word meets them.
 -- Assumes nothing.
-use Rattle.std.proofs.Common.{◌≡◌, ℕ, zero, suc, ◌*◌, ◌/◌, ◌%◌, ◌^◌, ◌<◌, ◌≤◌, Bool, true, false, eqb, leb, List, ◌∷◌, ◌++◌, length, take, sym, refl, ap, ◌∙◌, ⊎_elim, not-suc-le-zero, arith, length-append, eq-eqb, ne_eqb, leb-true, []}
+use Rattle.std.proofs.Common.{◌≡◌, ℕ, zero, suc, ◌*◌, ◌/◌, ◌%◌, ◌^◌, ◌<◌, ◌≤◌, Bool, true, false, eqb, leb, List, ◌∷◌, ◌++◌, length, take, sym, refl, ap, ◌∙◌, ⊎_elim}
+use Rattle.std.proofs.Common.{not-suc-le-zero, arith, length-append, eq-eqb, ne_eqb, leb-true, []}
 use lib.ListN.{get_or-append}
 use Rattle.memory.specs.Bytes.{Bytes}
 use Rattle.bits.specs.declared.Order.{Order}

@@ -1,6 +1,7 @@
 -- Laws of a slot's word: its bits stand in the order's walk, and a field of it is a run of them.
 -- Assumes nothing.
-use Rattle.std.proofs.Common.{◌≡◌, ℕ, zero, suc, ◌+◌, ◌-◌, ◌*◌, ◌/◌, ◌%◌, ◌^◌, ◌<◌, ◌≤◌, List, ◌∷◌, reverse, length, get_or, sym, refl, ap, ◌∙◌, ⊎_elim, lt_of_lt_of_le, le_of_suc-le-suc, not-suc-le-zero, mod-lt, mul_comm, add_comm, mul-add, arith, pow_pos, pow_mono, shl_lt, []}
+use Rattle.std.proofs.Common.{◌≡◌, ℕ, zero, suc, ◌+◌, ◌-◌, ◌*◌, ◌/◌, ◌%◌, ◌^◌, ◌<◌, ◌≤◌, List, ◌∷◌, reverse, length, get_or, sym, refl, ap, ◌∙◌, ⊎_elim, lt_of_lt_of_le}
+use Rattle.std.proofs.Common.{le_of_suc-le-suc, not-suc-le-zero, mod-lt, mul_comm, add_comm, mul-add, arith, pow_pos, pow_mono, shl_lt, []}
 use mathlib.Core.List.{reverse-cons}
 use native.Mathlib.Nat.{mod-add-div}
 use lib.ListN.{length-reverse, get_or-append, get_or-eq_default}

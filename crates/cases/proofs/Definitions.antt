@@ -28,7 +28,8 @@ unfolding value bytes_of part number_at replaced bit frame_bit place room number
 bit_definitions = tt
 
 unfoldable pub check_definitions : Unit {0}
-unfolding integer at_most less_than passes greatest_count next_count filter_of filter_right counts ipdu_record object_record offsets_right header_right ipdu_right references object_right check ipdu_of object_of
+unfolding integer at_most less_than passes greatest_count next_count filter_of filter_right counts
+    ipdu_record object_record offsets_right header_right ipdu_right references object_right check ipdu_of object_of
 check_definitions = tt
 
 unfoldable pub state_definitions : Unit {0}

@@ -1,6 +1,7 @@
 -- Laws of filters that callers cite.
 -- Assumes nothing.
-use Rattle.std.proofs.Common.{Bool, true, false, not, ◌&&◌, ⊎_elim, ◌≡◌, refl, sym, ap, ap₂, ◌∙◌, ℕ, zero, suc, ◌+◌, ◌-◌, ◌%◌, ◌^◌, ◌≤◌, ◌<◌, zero-le, mod-lt, mod-eq_of_lt, arith, leb-true, ltb-true, ltb-false, lt-ltb, le-ltb, le-leb, ne_eqb, leb, ltb, eqb, ◌||◌}
+use Rattle.std.proofs.Common.{Bool, true, false, not, ◌&&◌, ⊎_elim, ◌≡◌, refl, sym, ap, ap₂, ◌∙◌, ℕ, zero, suc, ◌+◌, ◌-◌, ◌%◌, ◌^◌, ◌≤◌, ◌<◌, zero-le, mod-lt, mod-eq_of_lt, arith}
+use Rattle.std.proofs.Common.{leb-true, ltb-true, ltb-false, lt-ltb, le-ltb, le-leb, ne_eqb, leb, ltb, eqb, ◌||◌}
 use native.Mathlib.Nat.{mod_self, mod-add-mod}
 use borrow.Author.Tests.{lt-leb, not-false}
 use Rattle.memory.specs.Search.{pick}

@@ -1,6 +1,9 @@
 -- Laws of `value`, `bytes_of`, `get`, `part` and `replaced`.
 -- Assumes nothing.
-use Rattle.std.proofs.Common.{◌≡◌, ℕ, zero, suc, ◌+◌, ◌-◌, ◌*◌, ◌/◌, ◌%◌, ◌^◌, ◌<◌, ◌≤◌, min, ◌⊎◌, List, [], ◌∷◌, ◌++◌, length, get_or, take, drop, set, replicate, sym, refl, ap, ◌∙◌, inl, inr, ⊎_elim, append_assoc, append-nil, le_of_suc-le-suc, mod-lt, zero-lt-suc, mul_comm, zero-add, add-one, arith, length-append, length-drop, take-append-drop, drop_of_length-le, length-take, length-take-le, get_or-drop, take_all, get_or-take, take-suc, drop-drop, take_at, get_or-append-add, ext_get_or, drop_at, pow-add}
+use Rattle.std.proofs.Common.{◌≡◌, ℕ, zero, suc, ◌+◌, ◌-◌, ◌*◌, ◌/◌, ◌%◌, ◌^◌, ◌<◌, ◌≤◌, min, ◌⊎◌, List, [], ◌∷◌, ◌++◌, length, get_or, take, drop, set, replicate, sym, refl, ap}
+use Rattle.std.proofs.Common.{◌∙◌, inl, inr, ⊎_elim, append_assoc, append-nil, le_of_suc-le-suc, mod-lt, zero-lt-suc, mul_comm, zero-add, add-one, arith, length-append}
+use Rattle.std.proofs.Common.{length-drop, take-append-drop, drop_of_length-le, length-take, length-take-le, get_or-drop, take_all, get_or-take, take-suc, drop-drop, take_at}
+use Rattle.std.proofs.Common.{get_or-append-add, ext_get_or, drop_at, pow-add}
 use native.Mathlib.Nat.{zero-mod, one-le-pow, pow-succ'}
 use lib.ListN.{length-replicate, get_or-replicate}
 use lib.ListN.{get_or-append, get_or-eq_default}

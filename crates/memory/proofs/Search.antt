@@ -1,6 +1,7 @@
 -- Laws of `any`, `least`, `sum` and `fold`: what a loop over records has shown.
 -- Assumes nothing.
-use Rattle.std.proofs.Common.{◌≡◌, ℕ, zero, suc, ◌+◌, ◌<◌, ◌≤◌, Bool, true, false, ◌⊎◌, sym, refl, ap, ◌∙◌, inl, inr, ⊎_elim, suc-le-suc, zero-le, le_refl, le_of_suc-le-suc, not-suc-le-zero, add-one, arith}
+use Rattle.std.proofs.Common.{◌≡◌, ℕ, zero, suc, ◌+◌, ◌<◌, ◌≤◌, Bool, true, false, ◌⊎◌, sym, refl, ap, ◌∙◌, inl, inr, ⊎_elim, suc-le-suc, zero-le, le_refl, le_of_suc-le-suc}
+use Rattle.std.proofs.Common.{not-suc-le-zero, add-one, arith}
 use native.Mathlib.Numerals.{unary_clauses}
 use Rattle.memory.specs.Search.{pick, any_below, least, sum_below, fold}
 use Rattle.memory.proofs.Tests.{eq_or_ne, true_or_false, true_not_false, or_split}

@@ -1,6 +1,7 @@
 -- The values that wait in an object's queue: what a receive takes of them, what a delivery adds to them, and what leaves them.
 -- Assumes nothing.
-use Rattle.std.proofs.Common.{Bool, true, false, List, [], ◌∷◌, ◌++◌, ◌⊎◌, inl, inr, ⊎_elim, ◌≡◌, refl, sym, ap, ap₂, ◌∙◌, ℕ, zero, suc, ◌+◌, ◌-◌, ◌*◌, ◌%◌, ◌^◌, ◌≤◌, ◌<◌, le_refl, mod-eq_of_lt, add-one, arith, ltb-true, lt-ltb, le-ltb, eqb-true, ltb, eqb, length, length-append, take, drop, take-take, drop-drop}
+use Rattle.std.proofs.Common.{Bool, true, false, List, [], ◌∷◌, ◌++◌, ◌⊎◌, inl, inr, ⊎_elim, ◌≡◌, refl, sym, ap, ap₂, ◌∙◌, ℕ, zero, suc, ◌+◌, ◌-◌, ◌*◌, ◌%◌, ◌^◌, ◌≤◌, ◌<◌, le_refl}
+use Rattle.std.proofs.Common.{mod-eq_of_lt, add-one, arith, ltb-true, lt-ltb, le-ltb, eqb-true, ltb, eqb, length, length-append, take, drop, take-take, drop-drop}
 use Rattle.table.specs.Records.{most_objects}
 use Rattle.memory.specs.Bytes.{value, bytes_of, part, number_at, replaced}
 use Rattle.memory.specs.Search.{pick}

@@ -18,7 +18,7 @@ use Rattle.cases.proofs.Definitions.{definitions, ◌&◌}
 use Rattle.cases.proofs.Computed.{all_hold}
 use Rattle.trace.specs.Book.{Entry, opened, advance}
 use Rattle.trace.specs.Actions.{Action, single, group, memory_after_all, book_after_all}
-use Rattle.trace.specs.Demand3.{ActionsTyped, done, frame, names}
+use Rattle.trace.specs.Demand3.{ActionsTyped, done, frame, Names}
 use Rattle.trace.specs.RoundTrip.{reading_in, stored_last, covered_since, message_place, ipdu_bytes}
 use Rattle.memory.proofs.Tests.{tested}
 use Rattle.trace.proofs.Pins.{none}
@@ -95,7 +95,7 @@ asked : value_of (step table (send 1 1 area) before).answer ≡ 1
 unfolding definitions
 asked = refl
 
-requested : names (value_of (step table (send 1 1 area) before).answer) 0
+requested : Names (value_of (step table (send 1 1 area) before).answer) 0
 unfolding bit
 requested = rw asked
 

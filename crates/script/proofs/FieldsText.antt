@@ -1,6 +1,7 @@
 -- The fields of a line are its words between blanks, and joined by blanks they are the line.
 -- Assumes nothing.
-use Rattle.std.proofs.Common.{◌≡◌, ℕ, zero, suc, ◌/◌, ◌%◌, ◌<◌, ◌≤◌, Bool, true, false, not, ◌&&◌, eqb, List, [], ◌∷◌, ◌++◌, ℤ, pos, negsuc, sym, refl, ap, ◌∙◌, ⊎_elim, append_assoc, append-nil, arith, le-ltb, lt-ltb, ne_eqb, eqb-true}
+use Rattle.std.proofs.Common.{◌≡◌, ℕ, zero, suc, ◌/◌, ◌%◌, ◌<◌, ◌≤◌, Bool, true, false, not, ◌&&◌, eqb, List, [], ◌∷◌, ◌++◌, ℤ, pos, negsuc, sym, refl, ap, ◌∙◌, ⊎_elim}
+use Rattle.std.proofs.Common.{append_assoc, append-nil, arith, le-ltb, lt-ltb, ne_eqb, eqb-true}
 use borrow.Author.Tests.{not-true}
 use lib.Seq.{append_snoc}
 use Rattle.memory.specs.Integers.{integer_text}

@@ -1,6 +1,7 @@
 -- A hex field as a number and a count of digits: whether it is whole bytes, and which, as long as there are at most eight.
 -- Assumes nothing.
-use Rattle.std.proofs.Common.{◌≡◌, ℕ, suc, ◌+◌, ◌*◌, ◌/◌, ◌%◌, ◌^◌, ◌<◌, ◌≤◌, min, true, false, not, eqb, List, [], ◌∷◌, ◌++◌, length, refl, ⊎_elim, append_assoc, append-nil, arith, ltb-true, le-ltb, lt-ltb, eq-eqb, ne_eqb}
+use Rattle.std.proofs.Common.{◌≡◌, ℕ, suc, ◌+◌, ◌*◌, ◌/◌, ◌%◌, ◌^◌, ◌<◌, ◌≤◌, min, true, false, not, eqb, List, [], ◌∷◌, ◌++◌, length, refl, ⊎_elim, append_assoc, append-nil}
+use Rattle.std.proofs.Common.{arith, ltb-true, le-ltb, lt-ltb, eq-eqb, ne_eqb}
 use Rattle.memory.proofs.Tests.{lt_or_le, each_true, true_or_false, and_false}
 use Rattle.script.proofs.BytesDown.{down_none, down_more, down_length}
 use Rattle.script.specs.declared.Hex.TheVariants.{Digits, NotHex}

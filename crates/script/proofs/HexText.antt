@@ -1,6 +1,7 @@
 -- A field is whole bytes exactly where it is the hex of those bytes.
 -- Assumes nothing.
-use Rattle.std.proofs.Common.{◌≡◌, ℕ, zero, suc, ◌+◌, ◌-◌, ◌*◌, ◌/◌, ◌%◌, ◌<◌, ◌≤◌, true, false, ◌&&◌, leb, List, [], ◌∷◌, sym, refl, ap, ⊎_elim, zero-lt-suc, arith, ltb-true, le-ltb, lt-ltb, le-leb, leb-true}
+use Rattle.std.proofs.Common.{◌≡◌, ℕ, zero, suc, ◌+◌, ◌-◌, ◌*◌, ◌/◌, ◌%◌, ◌<◌, ◌≤◌, true, false, ◌&&◌, leb, List, [], ◌∷◌, sym, refl, ap, ⊎_elim, zero-lt-suc, arith, ltb-true}
+use Rattle.std.proofs.Common.{le-ltb, lt-ltb, le-leb, leb-true}
 use borrow.Author.Tests.{lt-leb}
 use Rattle.memory.proofs.Tests.{lt_or_le, and_split, and_false, each_true, true_or_false}
 use Rattle.memory.specs.Bytes.{Bytes}

@@ -1,6 +1,7 @@
 -- Laws for reading a line: tests and choices by them, numerals by their variant, one hex digit more, and the bytes of a number stored one after the other.
 -- Assumes nothing.
-use Rattle.std.proofs.Common.{◌≡◌, ℕ, zero, suc, ◌+◌, ◌-◌, ◌*◌, ◌/◌, ◌%◌, ◌^◌, ◌<◌, ◌≤◌, Bool, true, false, ◌&&◌, ltb, leb, List, length, set, sym, refl, ◌∙◌, arith, w32, Fits, ltb-true, le-ltb, lt-ltb, leb-true}
+use Rattle.std.proofs.Common.{◌≡◌, ℕ, zero, suc, ◌+◌, ◌-◌, ◌*◌, ◌/◌, ◌%◌, ◌^◌, ◌<◌, ◌≤◌, Bool, true, false, ◌&&◌, ltb, leb, List, length, set, sym, refl, ◌∙◌, arith, w32, Fits}
+use Rattle.std.proofs.Common.{ltb-true, le-ltb, lt-ltb, leb-true}
 use lib.Seq.{sets}
 use Rattle.memory.proofs.Parts.{sets_snoc}
 use Rattle.memory.proofs.Tests.{and_split}

@@ -1,6 +1,7 @@
 -- A name of at most sixteen letters can be spelt back from its numbers, so `is_named` is `same`.
 -- Assumes nothing.
-use Rattle.std.proofs.Common.{◌≡◌, ℕ, zero, suc, ◌+◌, ◌-◌, ◌<◌, ◌≤◌, min, Bool, true, false, ◌&&◌, eqb, ltb, List, [], ◌∷◌, ◌++◌, length, sym, refl, ◌∙◌, ⊎_elim, append_assoc, append-nil, suc-le-suc, zero-le, zero-lt-suc, arith, length-append, ltb-true, le-ltb, lt-ltb, eq-eqb, eqb-true}
+use Rattle.std.proofs.Common.{◌≡◌, ℕ, zero, suc, ◌+◌, ◌-◌, ◌<◌, ◌≤◌, min, Bool, true, false, ◌&&◌, eqb, ltb, List, [], ◌∷◌, ◌++◌, length, sym, refl, ◌∙◌, ⊎_elim, append_assoc}
+use Rattle.std.proofs.Common.{append-nil, suc-le-suc, zero-le, zero-lt-suc, arith, length-append, ltb-true, le-ltb, lt-ltb, eq-eqb, eqb-true}
 use Rattle.memory.proofs.Tests.{lt_or_le, and_split, each_true, true_or_false, true_not_false}
 use Rattle.memory.specs.Bytes.{Bytes}
 use Rattle.script.proofs.BytesDown.{down_none, down_more}

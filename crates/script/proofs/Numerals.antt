@@ -1,6 +1,7 @@
 -- A field reads as a number exactly where it is that number's decimal, and as a negative one exactly where a minus stands before its decimal.
 -- Assumes nothing.
-use Rattle.std.proofs.Common.{◌≡◌, ℕ, zero, suc, ◌+◌, ◌-◌, ◌*◌, ◌/◌, ◌%◌, ◌^◌, ◌<◌, ◌≤◌, Bool, true, false, not, ◌&&◌, eqb, ltb, leb, List, [], ◌∷◌, ◌++◌, refl, ap, ◌∙◌, ⊎_elim, append_assoc, append-nil, arith, ltb-true, lt-ltb, ne_eqb, eqb-true, le-leb, leb-true}
+use Rattle.std.proofs.Common.{◌≡◌, ℕ, zero, suc, ◌+◌, ◌-◌, ◌*◌, ◌/◌, ◌%◌, ◌^◌, ◌<◌, ◌≤◌, Bool, true, false, not, ◌&&◌, eqb, ltb, leb, List, [], ◌∷◌, ◌++◌, refl, ap, ◌∙◌, ⊎_elim}
+use Rattle.std.proofs.Common.{append_assoc, append-nil, arith, ltb-true, lt-ltb, ne_eqb, eqb-true, le-leb, leb-true}
 use native.Mathlib.Nat.{pow-succ'}
 use borrow.Author.Tests.{eqb-false, not-true}
 use lib.Seq.{append_snoc}

@@ -1,6 +1,7 @@
 -- A line reads as a command exactly where it is that command's text, its value as it stands or signed.
 -- Assumes nothing.
-use Rattle.std.proofs.Common.{◌≡◌, ℕ, zero, suc, ◌-◌, ◌%◌, ◌^◌, Bool, true, false, not, ◌||◌, eqb, ltb, List, [], ◌∷◌, ◌++◌, sym, refl, ap, ◌∙◌, inl, inr, ⊎_elim, append_assoc, append-nil, zero-lt-suc, arith, ltb-false}
+use Rattle.std.proofs.Common.{◌≡◌, ℕ, zero, suc, ◌-◌, ◌%◌, ◌^◌, Bool, true, false, not, ◌||◌, eqb, ltb, List, [], ◌∷◌, ◌++◌, sym, refl, ap, ◌∙◌, inl, inr, ⊎_elim, append_assoc}
+use Rattle.std.proofs.Common.{append-nil, zero-lt-suc, arith, ltb-false}
 use Rattle.memory.proofs.IntegerLaws.{plain_text}
 use Rattle.memory.proofs.Search.{picked}
 use Rattle.memory.proofs.Tests.{or_split, true_or_false, true_not_false}

@@ -1,7 +1,8 @@
 -- The tests of an object record, in the order of the code: what each says of `object_right`. x, y and z are numbers that were read.
 -- Assumes nothing.
 use borrow.Author.Tests.{not-true, not-false}
-use Rattle.std.proofs.Common.{Bool, true, false, not, ◌&&◌, ◌||◌, List, [], ◌∷◌, ◌⊎◌, inl, inr, ⊎_elim, ◌≡◌, refl, sym, ◌∙◌, ℕ, ◌≤◌, ◌<◌, arith, eqb-true, leb-true, eq-eqb, ne_eqb, le-leb, lt-ltb, le-ltb, leb, ltb, eqb}
+use Rattle.std.proofs.Common.{Bool, true, false, not, ◌&&◌, ◌||◌, List, [], ◌∷◌, ◌⊎◌, inl, inr, ⊎_elim, ◌≡◌, refl, sym, ◌∙◌, ℕ, ◌≤◌, ◌<◌, arith, eqb-true, leb-true, eq-eqb, ne_eqb}
+use Rattle.std.proofs.Common.{le-leb, lt-ltb, le-ltb, leb, ltb, eqb}
 use Rattle.memory.specs.Search.{pick}
 use Rattle.memory.proofs.Tests.{and_split, each_true, or_cases, true_or_false, true_not_false, tested_true, tested_false, never_true}
 use Rattle.bits.specs.Bits.{room}

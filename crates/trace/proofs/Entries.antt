@@ -1,7 +1,8 @@
 -- Demand 3's book has, from a start on, an entry of each send object and of no other: a bit that send objects cover is that of the
 -- latest entry of them all, and a bit that none covers is 0.
 -- Assumes nothing.
-use Rattle.std.proofs.Common.{Bool, true, false, not, ◌&&◌, ◌||◌, List, [], ◌∷◌, ⊎_elim, ◌≡◌, refl, sym, ap, ℕ, zero, suc, ◌≤◌, ◌<◌, not-suc-le-zero, arith, eqb-true, eq-eqb, lt-ltb, ltb-true, leb, ltb, eqb, length}
+use Rattle.std.proofs.Common.{Bool, true, false, not, ◌&&◌, ◌||◌, List, [], ◌∷◌, ⊎_elim, ◌≡◌, refl, sym, ap, ℕ, zero, suc, ◌≤◌, ◌<◌, not-suc-le-zero, arith, eqb-true, eq-eqb}
+use Rattle.std.proofs.Common.{lt-ltb, ltb-true, leb, ltb, eqb, length}
 use Rattle.memory.specs.Search.{fold}
 use Rattle.memory.proofs.Search.{picked}
 use Rattle.memory.proofs.Tests.{and_split, eq_or_ne, true_or_false, true_not_false}

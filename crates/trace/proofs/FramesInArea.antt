@@ -19,16 +19,16 @@ use Rattle.calls.specs.Answers.{Outcome, value_of}
 use Rattle.calls.specs.Calls.{is_object, wants, try_request, request}
 use Rattle.calls.proofs.Records.{object_there, object_kind, ipdu_short, wants_some}
 use Rattle.calls.proofs.SlotRows.{handed_front, handed_length, handed_other, handed_same}
-use Rattle.trace.specs.Demand3.{names}
+use Rattle.trace.specs.Demand3.{Names}
 
 -- a word of 0 names nothing
-pub in_area_none : (k : ℕ) → names 0 k → ⊥
+pub in_area_none : (k : ℕ) → Names 0 k → ⊥
 in_area_none k e = omega (arith, e, bit_of_zero k)
 
 module _ (t : List ℕ) (c : Counts) where
   pub record FramesInArea (word : ℕ) (area m : List ℕ) : Type 0 where
-    pub named : (k : ℕ) → names word k → (k < c.ipdus) × ((ipdu_record t k).direction ≡ sending)
-    pub slot : (k : ℕ) → names word k → part (8 * k) (ipdu_record t k).length area ≡ part (slot_at k) (ipdu_record t k).length m
+    pub named : (k : ℕ) → Names word k → (k < c.ipdus) × ((ipdu_record t k).direction ≡ sending)
+    pub slot : (k : ℕ) → Names word k → part (8 * k) (ipdu_record t k).length area ≡ part (slot_at k) (ipdu_record t k).length m
 
   -- the same slots in another memory
   pub in_area_same : (word : ℕ) (area l m : List ℕ) → Right t c → FramesInArea word area l
@@ -79,10 +79,10 @@ module _ (t : List ℕ) (c : Counts) where
   pub record Next (n w : ℕ) (m : List ℕ) (o : Outcome) : Type 0 where
     pub hands : FramesInArea (w + value_of o.answer) o.area m
     pub long : area_size ≤ length o.area
-    pub below : (k : ℕ) → names (w + value_of o.answer) k → k < suc n
+    pub below : (k : ℕ) → Names (w + value_of o.answer) k → k < suc n
 
   module _ (right : Right t c) (n w : ℕ) (h : n < c.ipdus) (area m : List ℕ) (fits : area_size ≤ length area) (size : length m ≡ memory_size)
-      (under : w < 2 ^ n) (below : (k : ℕ) → names w k → k < n) (x : FramesInArea w area m) where
+      (under : w < 2 ^ n) (below : (k : ℕ) → Names w k → k < n) (x : FramesInArea w area m) where
     few : (ipdu_record t n).length ≤ 8
     few = ipdu_short t c right n h
 
@@ -96,11 +96,11 @@ module _ (t : List ℕ) (c : Counts) where
     mine : (ipdu_record t n).direction ≡ sending → FramesInArea (w + 2 ^ n) (copied_to_area (ipdu_record t n).length n m area) m
     mine d =
         record {
-          named = λ k e. ⊎_elim (λ (y : k ≡ n). rw y (h, d)) (λ (y : (k < n) × names w k). x.named k y.1) (bit_added n w k under e);
+          named = λ k e. ⊎_elim (λ (y : k ≡ n). rw y (h, d)) (λ (y : (k < n) × Names w k). x.named k y.1) (bit_added n w k under e);
           slot = λ k e.
               ⊎_elim
               (λ (y : k ≡ n). rw y (handed_front (ipdu_record t n).length n m area few low fits room))
-              (λ (y : (k < n) × names w k).
+              (λ (y : (k < n) × Names w k).
               handed_other (ipdu_record t n).length n m area few low fits room k (ipdu_record t k).length (λ e. absurd (omega (arith, y.0, e))) (ipdu_short t c right k (x.named k y.1).0)
               ∙ x.slot k y.1)
               (bit_added n w k under e);
@@ -118,5 +118,5 @@ module _ (t : List ℕ) (c : Counts) where
           hands = rw (v, a) (mine d);
           long = rw a (omega (arith, handed_length (ipdu_record t n).length n m area few low fits room, fits));
           below = λ k e.
-              ⊎_elim (λ (y : k ≡ n). omega (arith, y)) (λ (y : (k < n) × names w k). omega (arith, y.0)) (bit_added n w k under (rw v at e));
+              ⊎_elim (λ (y : k ≡ n). omega (arith, y)) (λ (y : (k < n) × Names w k). omega (arith, y.0)) (bit_added n w k under (rw v at e));
         }

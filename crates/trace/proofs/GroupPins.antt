@@ -66,11 +66,11 @@ group_words : (value_of (group_step table g begun).answer ≡ 1) × (value_of (s
 unfolding definitions send_each group_step
 group_words = (refl, refl)
 
-asked : claim.names (value_of (group_step table g begun).answer) 0
+asked : claim.Names (value_of (group_step table g begun).answer) 0
 unfolding bit
 asked = rw group_words.0
 
-first_bit : claim.names (value_of (step table (send 0 2748 here) begun).answer) 0
+first_bit : claim.Names (value_of (step table (send 0 2748 here) begun).answer) 0
     → frame_bit (claim.frame table 0 (step table (send 0 2748 here) begun).area) 24 ≡ 1
 unfolding value bytes_of part number_at bit place owns integer less_than passes filter_of counts ipdu_record object_record advance
 first_bit e = (both.0.1.0.sends refl).0.bits 0 e 24 (omega arith)

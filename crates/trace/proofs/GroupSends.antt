@@ -1,7 +1,8 @@
 -- A group beside its sends, each lent the group's area: the same memory, numbers and words, and the frames of the latest sends that ask
 -- for them.
 -- Assumes: the table holds bytes, and a value that is sent has 32 bits (`Typed`).
-use Rattle.std.proofs.Common.{Bool, true, false, List, [], ◌∷◌, ◌++◌, append-nil, ◌⊎◌, inl, inr, ⊎_elim, ◌≡◌, refl, sym, ap, subst, ◌∙◌, ℕ, ◌*◌, ◌^◌, ◌≤◌, ◌<◌, arith, leb-true, bit_or, leb, length, drop}
+use Rattle.std.proofs.Common.{Bool, true, false, List, [], ◌∷◌, ◌++◌, append-nil, ◌⊎◌, inl, inr, ⊎_elim, ◌≡◌, refl, sym, ap, subst, ◌∙◌, ℕ, ◌*◌, ◌^◌, ◌≤◌, ◌<◌, arith, leb-true}
+use Rattle.std.proofs.Common.{bit_or, leb, length, drop}
 use Rattle.memory.specs.Bytes.{Bytes, part}
 use Rattle.memory.specs.Search.{pick}
 use Rattle.memory.proofs.Tests.{eq_or_ne, true_not_false}
@@ -24,13 +25,13 @@ use Rattle.group.specs.declared.Pair.{Pair}
 use Rattle.group.specs.Groups.{Sent, sent, with_send, send_each, send_one, Group, refuse, well_formed, outcome_of, group_step}
 use Rattle.group.proofs.SendLeaves.{send_area_length, send_area_slot}
 use Rattle.trace.specs.Book.{Book, advance}
-use Rattle.trace.specs.Demand3.{AllTyped, frame, names, Unnamed, HandedOver, numbers_of, words_joined}
+use Rattle.trace.specs.Demand3.{AllTyped, frame, Names, Unnamed, HandedOver, numbers_of, words_joined}
 use Rattle.trace.specs.Actions.{sends_of, accepts_group}
 use Rattle.trace.proofs.SendFrames.{send_area}
 use Rattle.trace.proofs.Steps.{Follows, admission_by, Admits, goes, stays, admits, admission_is, step_follows, step_frames}
 
 -- a joined word names what one of the two does
-joined_names : (v w k : ℕ) → (names w k → ⊥) → names (bit_or v w) k → names v k
+joined_names : (v w k : ℕ) → (Names w k → ⊥) → Names (bit_or v w) k → Names v k
 joined_names v w k other e = ⊎_elim (λ (y : bit v k ≡ 1). y) (λ (n : bit v k ≡ 1 → ⊥). absurd (none n)) (eq_or_ne (bit v k) 1)
   where
     none : (bit v k ≡ 1 → ⊥) → ⊥
@@ -66,13 +67,13 @@ module _ (t : List ℕ) (c : Counts) (accepted : check t ≡ Accepted c) (bt : B
         by (goes a l on) = rw a (send_area_length t c i v small area fits (working_memory m) f.agrees.ready)
         by (stays z a done six word off) = rw a
 
-    step_area_slot : (k n : ℕ) → n ≤ 8 → (names (value_of (step t (send i v area) m).answer) k → ⊥)
+    step_area_slot : (k n : ℕ) → n ≤ 8 → (Names (value_of (step t (send i v area) m).answer) k → ⊥)
         → part (8 * k) n (step t (send i v area) m).area ≡ part (8 * k) n area
     unfolding step
     step_area_slot k n most = rw (admission_is t c accepted bt b m f (describe (send i v area))) (by (admits (describe (send i v area)) c b))
       where
         by : Admits (describe (send i v area)) c b
-            → (names (value_of (if_admitted (admission_by (describe (send i v area)) c b) m area ((describe (send i v area)).does t)).answer) k → ⊥)
+            → (Names (value_of (if_admitted (admission_by (describe (send i v area)) c b) m area ((describe (send i v area)).does t)).answer) k → ⊥)
             → part (8 * k) n (if_admitted (admission_by (describe (send i v area)) c b) m area ((describe (send i v area)).does t)).area ≡ part (8 * k) n area
         by (goes a l on) = rw a (send_area_slot t c i v small area fits (working_memory m) f.agrees.ready k n most)
         by (stays z a done six word off) = rw a (λ no. refl)
@@ -82,7 +83,7 @@ module _ (t : List ℕ) (c : Counts) (accepted : check t ≡ Accepted c) (bt : B
   -- slot k after the sends: as before, and none has asked for it; or as the latest that did left it
   abbrev SlotAfter : ℕ → Sent → Sent → List Outcome → Type 0
   SlotAfter k r s os =
-      ((k < c.ipdus → frame t k r.area ≡ frame t k s.area) × (names r.word k → names s.word k) × Unnamed k os)
+      ((k < c.ipdus → frame t k r.area ≡ frame t k s.area) × (Names r.word k → Names s.word k) × Unnamed k os)
       ⊎ HandedOver t k (frame t k r.area) os
 
   pub record Ran (ps : List Pair) (area : List ℕ) (s : Sent) : Type 0 where
@@ -116,12 +117,12 @@ module _ (t : List ℕ) (c : Counts) (accepted : check t ≡ Accepted c) (bt : B
     rest = run t (sends_of ps area) lent.memory
 
     module _ (r : Sent) (k : ℕ) (same : k < c.ipdus → frame t k r.area ≡ frame t k o.area)
-        (back : names r.word k → names (bit_or s.word (value_of o.answer)) k) (none : Unnamed k rest) where
-      asked : names (value_of o.answer) k → SlotAfter k r s (lent ∷ rest)
+        (back : Names r.word k → Names (bit_or s.word (value_of o.answer)) k) (none : Unnamed k rest) where
+      asked : Names (value_of o.answer) k → SlotAfter k r s (lent ∷ rest)
       asked named =
           let x = step_frames t c accepted bt b s.memory f (send p.object p.value s.area) y.0 in
           let z = step_frames t c accepted bt b s.memory f (send p.object p.value area) y.0 in
-          let there : names (value_of lent.answer) k = rw alike.0 at named in
+          let there : Names (value_of lent.answer) k = rw alike.0 at named in
           inr
           (inr (
             there,
@@ -132,7 +133,7 @@ module _ (t : List ℕ) (c : Counts) (accepted : check t ≡ Accepted c) (bt : B
             none,
           ))
 
-      quiet : (names (value_of o.answer) k → ⊥) → SlotAfter k r s (lent ∷ rest)
+      quiet : (Names (value_of o.answer) k → ⊥) → SlotAfter k r s (lent ∷ rest)
       quiet other =
           inl (
             λ low.
@@ -162,7 +163,7 @@ module _ (t : List ℕ) (c : Counts) (accepted : check t ≡ Accepted c) (bt : B
               ∙ ap (λ (a : Answer). words_joined (bit_or s.word (value_of a)) rest) alike.0;
           slots = λ k.
               ⊎_elim
-              (λ (x : (k < c.ipdus → frame t k r.area ≡ frame t k o.area) × (names r.word k → names (bit_or s.word (value_of o.answer)) k) × Unnamed k rest).
+              (λ (x : (k < c.ipdus → frame t k r.area ≡ frame t k o.area) × (Names r.word k → Names (bit_or s.word (value_of o.answer)) k) × Unnamed k rest).
               kept r k x.0 x.1 x.2)
               (λ (h : HandedOver t k (frame t k r.area) rest). inr (inl h))
               (subst (λ (n : List ℕ). SlotAfter k r (with_send s o) (run t (sends_of ps area) n)) alike.1 (next.slots k));

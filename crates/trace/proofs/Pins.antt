@@ -166,7 +166,7 @@ first_word : value_of (step table (send 0 2748 here) (after (start ∷ []) m)).a
 unfolding definitions
 first_word = refl
 
-requested : claim.names (value_of (step table (send 0 2748 here) (after (start ∷ []) m)).answer) 0
+requested : claim.Names (value_of (step table (send 0 2748 here) (after (start ∷ []) m)).answer) 0
 unfolding bit
 requested = rw first_word
 
@@ -229,7 +229,7 @@ called_by (marks i) = 0
 called_by (clear_marks i) = 0
 called_by start_periodic = 0
 called_by stop_periodic = 0
-called_by (indication k good bytes) = 0
+called_by (indication k good frame) = 0
 called_by (confirm k good) = 0
 called_by (tick area) = 0
 

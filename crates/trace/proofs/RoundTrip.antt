@@ -20,7 +20,7 @@ use Rattle.layer.specs.Admission.{working_memory}
 use Rattle.layer.specs.Step.{Call, start, indication, step}
 use Rattle.trace.specs.Book.{Entry, Book, unopened, sends, last_of, opened, advance, book_after, book_bit}
 use Rattle.trace.specs.Actions.{Action, single, group, leaves, group_sends, advance_by, memory_after_all, book_after_all}
-use Rattle.trace.specs.Demand3.{Typed, ActionsTyped, done, word_of, frame, names, CallKept, AllKept, ActionKept, ActionsKept}
+use Rattle.trace.specs.Demand3.{Typed, ActionsTyped, done, word_of, frame, Names, CallKept, AllKept, ActionKept, ActionsKept}
 use Rattle.trace.specs.RoundTrip.{reading_in, reading_of, LastReads, LastExact, OlderReads, ipdu_bytes, StoredLast, StoredExactly, StoredEarlier}
 use Rattle.trace.specs.RoundTrip.{FramesRead, AllRead, ActionRead, ActionsRead, Runs, memory_of, ActionsRun}
 use Rattle.trace.specs.RoundTrip.{Takes, Arrived, Uncovered, Like}
@@ -162,7 +162,7 @@ record Handed (t : List ℕ) (k i v : ℕ) (f : List ℕ) : Type 0 where
 
 -- the frames that a call of a running layer hands over are such, where nothing kept since covers the reading
 call_hands : (t : List ℕ) → Bytes t → (xs : List Call) (m : List ℕ) → Runs t xs m → (call : Call) → Typed call
-    → (k i : ℕ) → names (word_of call (step t call (memory_of t xs m)).answer) k → sends t (counts t) i ≡ true → (object_record t (counts t).ipdus i).ipdu ≡ k
+    → (k i : ℕ) → Names (word_of call (step t call (memory_of t xs m)).answer) k → sends t (counts t) i ≡ true → (object_record t (counts t).ipdus i).ipdu ≡ k
     → Uncovered t (counts t) i (advance t (counts t) (book_after t (counts t) (opened t (counts t)) xs) call).entries
     → Handed t k i
     (reading_of (object_record t (counts t).ipdus i) (last_of i (advance t (counts t) (book_after t (counts t) (opened t (counts t)) xs) call).entries))
@@ -191,7 +191,7 @@ call_hands t bt xs m r call y k i e s at free =
 -- filter passes it, gets the low bits of the latest value that the sender kept, that call's own included, where no value kept since
 -- covers a bit of the reading
 pub reading_round_trip : (t : List ℕ) → Bytes t → (xs : List Call) (m : List ℕ) → Runs t xs m → (call : Call) → Typed call
-    → (k i : ℕ) → names (word_of call (step t call (memory_of t xs m)).answer) k → sends t (counts t) i ≡ true → (object_record t (counts t).ipdus i).ipdu ≡ k
+    → (k i : ℕ) → Names (word_of call (step t call (memory_of t xs m)).answer) k → sends t (counts t) i ≡ true → (object_record t (counts t).ipdus i).ipdu ≡ k
     → Uncovered t (counts t) i (advance t (counts t) (book_after t (counts t) (opened t (counts t)) xs) call).entries
     → (u : List ℕ) → Bytes u → (ys : List Call) (n : List ℕ) → Runs u ys n → (j : ℕ) → (object_record u (counts u).ipdus j).ipdu < (counts u).ipdus
     → Like t (object_record t (counts t).ipdus i) u (object_record u (counts u).ipdus j) → (v : ℕ)

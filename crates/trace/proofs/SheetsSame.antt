@@ -1,6 +1,7 @@
 -- Demand 3 (b) of begins and drains: over memories that are alike in the first 8,192 bytes they give the same, and a drain leaves such memories.
 -- Assumes: the table holds bytes.
-use Rattle.std.proofs.Common.{Bool, true, false, ◌&&◌, ◌||◌, List, [], ◌∷◌, ◌++◌, ⊎_elim, ◌≡◌, refl, sym, ap, ap₂, ◌∙◌, ℕ, zero, suc, ◌+◌, ◌≤◌, ◌<◌, zero-add, add-zero, add-suc, suc-add, arith, eqb-true, leb, ltb, eqb, length, get_or, set, take, drop, length-set, take_all as take_whole, take-suc-set}
+use Rattle.std.proofs.Common.{Bool, true, false, ◌&&◌, ◌||◌, List, [], ◌∷◌, ◌++◌, ⊎_elim, ◌≡◌, refl, sym, ap, ap₂, ◌∙◌, ℕ, zero, suc, ◌+◌, ◌≤◌, ◌<◌, zero-add, add-zero, add-suc}
+use Rattle.std.proofs.Common.{suc-add, arith, eqb-true, leb, ltb, eqb, length, get_or, set, take, drop, length-set, take_all as take_whole, take-suc-set}
 use mathlib.Core.Path.{fun_ext}
 use borrow.Author.Tests.{eqb-false}
 use lib.Seq.{sets, take-append-le}

@@ -1,6 +1,7 @@
 -- After a start working memory refines the book of demand 3 as a start opens it.
 -- Assumes nothing.
-use Rattle.std.proofs.Common.{true, false, List, [], inl, inr, ⊎_elim, ◌≡◌, refl, sym, ap, subst, ◌∙◌, ℕ, zero, suc, ◌+◌, ◌/◌, ◌%◌, ◌^◌, ◌≤◌, ◌<◌, not-suc-le-zero, arith, eqb-true, eq-eqb, ne_eqb, eqb, length, drop, get_or-take, get_or-drop}
+use Rattle.std.proofs.Common.{true, false, List, [], inl, inr, ⊎_elim, ◌≡◌, refl, sym, ap, subst, ◌∙◌, ℕ, zero, suc, ◌+◌, ◌/◌, ◌%◌, ◌^◌, ◌≤◌, ◌<◌, not-suc-le-zero, arith, eqb-true}
+use Rattle.std.proofs.Common.{eq-eqb, ne_eqb, eqb, length, drop, get_or-take, get_or-drop}
 use native.Mathlib.Nat.{zero-div}
 use borrow.Author.Tests.{eqb-false}
 use Rattle.memory.specs.Bytes.{Bytes, part}

@@ -18,7 +18,7 @@ use Rattle.calls.specs.Tick.{TickResult, tick_as, tick_ipdu, tick_turn, ticks, t
 use Rattle.calls.proofs.Records.{sends_one}
 use Rattle.calls.proofs.Ticks.{tick_word, word_more}
 use Rattle.calls.proofs.ReadyKept.{ready_due, ready_ticks}
-use Rattle.trace.specs.Demand3.{names}
+use Rattle.trace.specs.Demand3.{Names}
 use Rattle.trace.proofs.BookUnchanged.{BookUnchanged, unchanged_refl, unchanged_then, unchanged_ipdu, unchanged_pick, unchanged_mark}
 use Rattle.trace.proofs.FramesInArea.{FramesInArea, in_area_none, in_area_same, Tried, quiet, tried_cases, tried_from, in_area_more}
 
@@ -69,7 +69,7 @@ module _ (t : List ℕ) (c : Counts) where
       unseen : BookUnchanged t c m a.memory
       low : a.word < 2 ^ n
       long : area_size ≤ length a.area
-      below : (k : ℕ) → names a.word k → k < n
+      below : (k : ℕ) → Names a.word k → k < n
       hands : FramesInArea t c a.word a.area m
 
     turned_next : (n : ℕ) → n < c.ipdus → (a : TickResult) → Ready t c a.memory → Turned n a → Turned (suc n) (tick_turn t c n a)

@@ -1,6 +1,7 @@
 -- Filterings in turn: a part of a row of them is in turn too, and of as many as the period exactly one passes.
 -- Assumes nothing.
-use Rattle.std.proofs.Common.{Bool, true, false, List, [], ◌∷◌, ◌++◌, ◌≡◌, refl, sym, ap, ◌∙◌, ℕ, zero, suc, ◌+◌, ◌-◌, ◌%◌, ◌≤◌, ◌<◌, add-zero, zero-add, suc-add, mod-eq_of_lt, arith, eq-eqb, ne_eqb, eqb, length}
+use Rattle.std.proofs.Common.{Bool, true, false, List, [], ◌∷◌, ◌++◌, ◌≡◌, refl, sym, ap, ◌∙◌, ℕ, zero, suc, ◌+◌, ◌-◌, ◌%◌, ◌≤◌, ◌<◌, add-zero, zero-add, suc-add, mod-eq_of_lt}
+use Rattle.std.proofs.Common.{arith, eq-eqb, ne_eqb, eqb, length}
 use native.Mathlib.Nat.{add-mod_right}
 use Rattle.trace.specs.Filterings.{passed, turns}
 

@@ -49,8 +49,8 @@ word_of call a = word_in (describe call).lent a
 abbrev pub frame : List ℕ → ℕ → List ℕ → List ℕ
 frame t k area = part (8 * k) (ipdu_record t k).length area
 
-abbrev pub names : ℕ → ℕ → Type 0
-names word k = bit word k ≡ 1
+abbrev pub Names : ℕ → ℕ → Type 0
+Names word k = bit word k ≡ 1
 
 -- ---- (a) one call, with the book before it
 
@@ -65,8 +65,8 @@ Judged t c b told_nothing n went = Unit {0}
 -- each bit of each frame is the book's, once this call is entered
 pub record CallKept (t : List ℕ) (c : Counts) (b : Book) (call : Call) (o : Outcome) : Type 0 where
   pub judged : Judged t c b (describe call).told (length (lent_bytes (describe call).lent)) (done o)
-  pub named : (k : ℕ) → names (word_of call o.answer) k → (k < c.ipdus) × ((ipdu_record t k).direction ≡ sending)
-  pub bits : (k : ℕ) → names (word_of call o.answer) k → (p : ℕ) → p < 8 * (ipdu_record t k).length
+  pub named : (k : ℕ) → Names (word_of call o.answer) k → (k < c.ipdus) × ((ipdu_record t k).direction ≡ sending)
+  pub bits : (k : ℕ) → Names (word_of call o.answer) k → (p : ℕ) → p < 8 * (ipdu_record t k).length
       → frame_bit (frame t k o.area) p ≡ book_bit t c (advance t c b call).entries k p
 
 -- every call of a list, memory handed from call to call
@@ -77,12 +77,12 @@ AllKept t c b (call ∷ calls) m = CallKept t c b call (step t call m) × AllKep
 -- no send of these asks for I-PDU k
 abbrev pub Unnamed : ℕ → List Outcome → Type 0
 Unnamed k [] = Unit {0}
-Unnamed k (o ∷ os) = (names (value_of o.answer) k → ⊥) × Unnamed k os
+Unnamed k (o ∷ os) = (Names (value_of o.answer) k → ⊥) × Unnamed k os
 
 -- the frame is the one of the latest of these sends that asks for I-PDU k
 abbrev pub HandedOver : List ℕ → ℕ → List ℕ → List Outcome → Type 0
 HandedOver t k f [] = ⊥
-HandedOver t k f (o ∷ os) = HandedOver t k f os ⊎ (names (value_of o.answer) k × (f ≡ frame t k o.area) × Unnamed k os)
+HandedOver t k f (o ∷ os) = HandedOver t k f os ⊎ (Names (value_of o.answer) k × (f ≡ frame t k o.area) × Unnamed k os)
 
 -- the numbers that they answer, and their words joined to w
 abbrev pub numbers_of : List Outcome → List ℕ
@@ -100,7 +100,7 @@ pub record GroupKept (t : List ℕ) (c : Counts) (b : Book) (g : Group) (m : Lis
   pub sends : accepts_group b g ≡ true → AllKept t c b (group_sends g) m
   pub statuses : accepts_group b g ≡ true → o.statuses ≡ numbers_of (run t (group_sends g) m)
   pub word : accepts_group b g ≡ true → value_of o.answer ≡ words_joined 0 (run t (group_sends g) m)
-  pub frames : (k : ℕ) → names (value_of o.answer) k → HandedOver t k (frame t k o.area) (run t (group_sends g) m)
+  pub frames : (k : ℕ) → Names (value_of o.answer) k → HandedOver t k (frame t k o.area) (run t (group_sends g) m)
 
 abbrev pub ActionKept : List ℕ → Counts → Book → Action → List ℕ → Type 0
 ActionKept t c b (single call) m = CallKept t c b call (step t call m)
@@ -154,7 +154,7 @@ pub record SameAnswer (t : List ℕ) (x y : Call) (o p : Outcome) : Type 0 where
   pub number : number_of o.answer ≡ number_of p.answer
   pub value : value_of o.answer ≡ value_of p.answer
   pub word : word_of x o.answer ≡ word_of y p.answer
-  pub frames : (k : ℕ) → names (word_of x o.answer) k → frame t k o.area ≡ frame t k p.area
+  pub frames : (k : ℕ) → Names (word_of x o.answer) k → frame t k o.area ≡ frame t k p.area
 
 abbrev pub AllSame : List ℕ → List Call → List Call → List ℕ → List ℕ → Type 0
 AllSame t [] [] m n = Unit {0}
@@ -168,7 +168,7 @@ pub record SameGroup (t : List ℕ) (o p : GroupOutcome) : Type 0 where
   pub number : number_of o.answer ≡ number_of p.answer
   pub word : value_of o.answer ≡ value_of p.answer
   pub statuses : number_of o.answer ≡ 0 → o.statuses ≡ p.statuses
-  pub frames : (k : ℕ) → names (value_of o.answer) k → frame t k o.area ≡ frame t k p.area
+  pub frames : (k : ℕ) → Names (value_of o.answer) k → frame t k o.area ≡ frame t k p.area
 
 abbrev pub SameAction : List ℕ → Action → Action → List ℕ → List ℕ → Type 0
 SameAction t (single x) (single y) m n = SameAnswer t x y (step t x m) (step t y n)

@@ -19,7 +19,7 @@ use Rattle.layer.specs.Step.{Call, start, receive, step, run, memory_after}
 use Rattle.group.specs.Groups.{group_step}
 use Rattle.trace.specs.Book.{Entry, Book, sends, last_of, opened, advance, book_after, owns_ipdu_bit}
 use Rattle.trace.specs.Actions.{Action, single, group, leaves, group_sends, accepts_group, advance_by, expanded, memory_after_all, book_after_all}
-use Rattle.trace.specs.Demand3.{AllTyped, ActionsTyped, done, word_of, frame, names, HandedOver}
+use Rattle.trace.specs.Demand3.{AllTyped, ActionsTyped, done, word_of, frame, Names, HandedOver}
 
 -- ---- readings in the bytes of an I-PDU
 
@@ -90,7 +90,7 @@ StoredEarlier t = Stored t (OlderReads t (counts t))
 
 abbrev pub FramesRead : List ℕ → Counts → Book → Call → Outcome → Type 0
 FramesRead t c b call o =
-    (k : ℕ) → names (word_of call o.answer) k
+    (k : ℕ) → Names (word_of call o.answer) k
     → LastReads t c (advance t c b call).entries k (frame t k o.area) × OlderReads t c (advance t c b call).entries k (frame t k o.area)
 
 abbrev pub AllRead : List ℕ → Counts → Book → List Call → List ℕ → Type 0
@@ -102,7 +102,7 @@ abbrev pub ActionRead : List ℕ → Counts → Book → Action → List ℕ →
 ActionRead t c b (single call) m = FramesRead t c b call (step t call m)
 ActionRead t c b (group g) m =
     (accepts_group b g ≡ true → AllRead t c b (group_sends g) m)
-    × ((k : ℕ) → names (value_of (group_step t g m).answer) k → HandedOver t k (frame t k (group_step t g m).area) (run t (group_sends g) m))
+    × ((k : ℕ) → Names (value_of (group_step t g m).answer) k → HandedOver t k (frame t k (group_step t g m).area) (run t (group_sends g) m))
 
 abbrev pub ActionsRead : List ℕ → Counts → Book → List Action → List ℕ → Type 0
 ActionsRead t c b [] m = Unit {0}

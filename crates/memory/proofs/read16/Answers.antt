@@ -1,4 +1,4 @@
--- `memory::read16`: a number is its first byte and 256 times the rest (`number_two`). A line of answers for each statement.
+-- `memory::read16`: a number is its first byte and 256 times the rest (`number_two`).
 -- Assumes nothing.
 use Rattle.std.proofs.Common.{arith}
 use Rattle.memory.proofs.Parts.{number_two}

@@ -1,4 +1,4 @@
--- `memory::read32`: a number is its first byte and 256 times the rest (`number_four`). A line of answers for each statement.
+-- `memory::read32`: a number is its first byte and 256 times the rest (`number_four`).
 -- Assumes nothing.
 use Rattle.std.proofs.Common.{arith}
 use Rattle.memory.proofs.Parts.{number_four}

@@ -1,4 +1,4 @@
--- `memory::read64`: a number is its first byte and 256 times the rest (`number_eight`). A line of answers for each statement.
+-- `memory::read64`: a number is its first byte and 256 times the rest (`number_eight`).
 -- Assumes nothing.
 use Rattle.std.proofs.Common.{arith}
 use Rattle.memory.proofs.Parts.{number_eight}

@@ -1,4 +1,4 @@
--- `memory::write32`: a run of stores replaces a part (`sets_replaced`). A line of answers for each statement.
+-- `memory::write32`: a run of stores replaces a part (`sets_replaced`).
 -- Assumes nothing.
 use Rattle.std.proofs.Common.{add-one, arith, length-set}
 use Rattle.memory.specs.Bytes.{bytes_of}

@@ -1,4 +1,4 @@
--- `state::rows::ipdu_state`: each read is a field of the row. A line of answers for each statement.
+-- `state::rows::ipdu_state`: each read is a field of the row.
 -- Assumes nothing.
 use Rattle.std.proofs.Common.{add-zero}
 use Rattle.state.specs.Layout.{ipdu_state}

@@ -1,4 +1,4 @@
--- `state::rows::object_state`: each read is a field of the row. A line of answers for each statement.
+-- `state::rows::object_state`: each read is a field of the row.
 -- Assumes nothing.
 use Rattle.std.proofs.Common.{add-zero}
 use Rattle.state.specs.Layout.{object_state}

@@ -1,4 +1,4 @@
--- `state::rows::set_ipdu_state`: the seven fields are put one after the other. A line of answers for each statement.
+-- `state::rows::set_ipdu_state`: the seven fields are put one after the other.
 -- Assumes nothing.
 use Rattle.std.proofs.Common.{add-zero}
 use Rattle.state.specs.Layout.{with_ipdu_state}

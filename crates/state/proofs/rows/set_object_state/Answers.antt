@@ -1,4 +1,4 @@
--- `state::rows::set_object_state`: the eight fields are put one after the other. A line of answers for each statement.
+-- `state::rows::set_object_state`: the eight fields are put one after the other.
 -- Assumes nothing.
 use Rattle.std.proofs.Common.{add-zero}
 use Rattle.state.specs.Layout.{with_object_state}

@@ -1,4 +1,4 @@
--- `table::records::ipdu_record`: each read is a field of the record. A line of answers for each statement.
+-- `table::records::ipdu_record`: each read is a field of the record.
 -- Assumes nothing.
 use Rattle.table.specs.Records.{ipdu_record}
 use Rattle.table.proofs.records.ipdu_record.Goals as goal

@@ -1,4 +1,4 @@
--- `table::records::object_record`: each read is a field of the record. A line of answers for each statement.
+-- `table::records::object_record`: each read is a field of the record.
 -- Assumes nothing.
 use Rattle.table.specs.Records.{object_record}
 use Rattle.table.proofs.records.object_record.Goals as goal
