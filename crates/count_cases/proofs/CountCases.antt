@@ -1,7 +1,7 @@
 -- The examples of W-203, proved by computation from the definitions: one round of three filterings leaves memory as it was, and so do 100.
 -- From the theorems what they say of these lists; a weaker claim does not have it.
 -- Assumes nothing.
-use Rattle.std.proofs.Common.{Bool, true, false, List, [], ◌∷◌, ◌++◌, append_assoc, ◌≡◌, refl, sym, ap, ◌∙◌, ℕ, zero, suc, ◌<◌, arith, length, replicate, not}
+use Rattle.std.proofs.Common.{Bool, true, false, List, [], ◌∷◌, ◌++◌, append_assoc, ◌≡◌, refl, sym, ap, ◌∙◌, ℕ, zero, suc, ◌<◌, arith, length, replicate}
 use Rattle.memory.specs.Bytes.{Bytes, bytes_of}
 use Rattle.memory.proofs.Tests.{true_not_false}
 use Rattle.state.specs.declared.ObjectState.{ObjectState}

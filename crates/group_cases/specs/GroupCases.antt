@@ -5,7 +5,6 @@ use Rattle.memory.specs.Bytes.{bytes_of}
 use Rattle.state.specs.Layout.{memory_size}
 use Rattle.calls.specs.Answers.{number_of, value_of}
 use Rattle.layer.specs.Step.{Call, start, stop, receive, confirm, tick, run, memory_after}
-use Rattle.group.specs.declared.Pair.{Pair}
 use Rattle.group.specs.Pairs.{Pairs, in_bytes, in_records}
 use Rattle.group.specs.Pairs as given
 use Rattle.group.specs.Groups.{Group, group_of, GroupOutcome, group_step}

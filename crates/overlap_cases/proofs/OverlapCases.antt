@@ -1,7 +1,7 @@
 -- The examples of W-205, proved by computation from the definitions; then what the claims say of a list with a door bit behind the number and
 -- a number that is dropped. A weaker claim does not have it.
 -- Assumes nothing.
-use Rattle.std.proofs.Common.{Bool, true, false, List, [], ◌∷◌, ◌≡◌, refl, ℕ, ◌<◌, arith, replicate, ap}
+use Rattle.std.proofs.Common.{Bool, true, false, List, [], ◌∷◌, ◌≡◌, refl, ℕ, ◌<◌, arith, replicate}
 use Rattle.memory.specs.Bytes.{Bytes, value, bytes_of, part, number_at}
 use Rattle.bits.specs.Bits.{bit, frame_bit, place, owns, extended, read_back}
 use Rattle.memory.specs.Integers.{integer, less_than}

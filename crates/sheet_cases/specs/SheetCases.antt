@@ -1,6 +1,6 @@
 -- W-206 by examples: journeys of calls, begins and drains, with the number that each begin and drain answers and the text that it writes.
 -- Assumes nothing.
-use Rattle.std.specs.Prelude.{true, false, List, [], ◌∷◌, ◌++◌, ◌≡◌, ℕ, replicate, take}
+use Rattle.std.specs.Prelude.{true, false, List, [], ◌∷◌, ◌++◌, ℕ, replicate, take}
 use Prim.Native.String.{String}
 use Rattle.memory.specs.Texts.{line_feed}
 use Rattle.state.specs.Layout.{memory_size}

@@ -1,6 +1,6 @@
 -- The claims of W-207 cannot be emptied: from the theorems themselves a value below zero that is read back, one that is not, and one that another
 -- board receives. Assumes nothing.
-use Rattle.std.proofs.Common.{true, List, [], ◌∷◌, ◌≡◌, refl, ℕ, arith, replicate, false, not}
+use Rattle.std.proofs.Common.{true, List, [], ◌∷◌, ◌≡◌, refl, ℕ, arith, replicate}
 use Rattle.memory.specs.Bytes.{Bytes, value, bytes_of, part, number_at}
 use Rattle.memory.specs.Integers.{integer, less_than}
 use Rattle.memory.proofs.Tests.{tested, true_not_false}
@@ -16,7 +16,7 @@ use Rattle.cases.specs.Case.{pair, send_ipdu, receive_ipdu, object_bytes, area}
 use Rattle.cases.proofs.Definitions.{definitions}
 use Rattle.trace.specs.Book.{advance}
 use Rattle.trace.specs.Actions.{Action, single, memory_after_all}
-use Rattle.trace.specs.Demand3.{done, frame, names}
+use Rattle.trace.specs.Demand3.{done, frame, Names}
 use Rattle.trace.specs.RoundTrip.{reading_in, ipdu_bytes, Runs, memory_of, Takes}
 use Rattle.trace.proofs.Pins.{none}
 use Rattle.trace.proofs.RoundTrip.{stored_last_lem, stored_exactly, reading_round_trip}
@@ -83,7 +83,7 @@ asked : value_of (step table (send 0 (below 2048) area) (step table start m).mem
 unfolding definitions
 asked = refl
 
-requested : names (value_of (step table (send 0 (below 2048) area) (step table start m).memory).answer) 0
+requested : Names (value_of (step table (send 0 (below 2048) area) (step table start m).memory).answer) 0
 unfolding bit
 requested = rw asked
 
