@@ -2,7 +2,7 @@
 // can't be read.
 #![tactic(auto)]
 
-ghost use Rattle.std.specs.Prelude.{◌≡◌, ◌<◌, ◌≤◌, IfOk, IsFalse, length, take};
+ghost use Rattle.std.specs.Prelude.{◌≡◌, ◌<◌, ◌≤◌, IfOk, IsErr, IsFalse, IsUtf8, length, take};
 ghost use Rattle.std.specs.Io.KnownBytes.{Consumes, IsAtEnd};
 ghost use Rattle.std.specs.Io.{ReadsAtMost, StartsWith};
 
@@ -47,7 +47,9 @@ fn read_some<R: Files>(rt: &R, path: &[u8], bytes: &mut [u8]) -> io::Result<usiz
 }
 
 // Opens a file to read it. A path that is not UTF-8 is refused, since std takes a path only as text.
-pub fn open<R: Files>(rt: &R, path: &[u8]) -> io::Result<R::File> {
+pub fn open<R: Files>(rt: &R, path: &[u8]) -> io::Result<R::File>
+    ensures { ¬ IsUtf8 path.now → IsErr result }
+{
     match str::from_utf8(path) {
         Ok(text) => File::open(rt, text),
         Err(_) => Err(Error::new(ErrorKind::InvalidFilename, "the path is not UTF-8")),
