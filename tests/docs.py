@@ -30,13 +30,13 @@ def headings(path):
 @lru_cache(maxsize=None)
 def declared(path):
     """The names that a file declares: in .antt definitions, laws, records, types, fields and cases of a type; in .rt and .rs functions,
-    types and constants; in .h functions and macros."""
+    types, traits and constants; in .h functions and macros."""
     text = path.read_text()
     names = set()
     if path.suffix == ".antt":
         names |= set(re.findall(r"^ *(?:abbrev |unfoldable )*(?:pub )?(?:record |data )?([A-Za-z][\w-]*)(?=[^:\n=]*:(?!:))", text, flags=re.M))
     elif path.suffix in (".rt", ".rs"):
-        names |= set(re.findall(r"\b(?:fn|struct|enum|const|type|mod)\s+(\w+)", text))
+        names |= set(re.findall(r"\b(?:fn|struct|enum|trait|const|type|mod)\s+(\w+)", text))
     elif path.suffix == ".h":
         names |= set(re.findall(r"\b(\w+)\(", text)) | set(re.findall(r"#define (\w+)", text))
     elif path.suffix == ".edit":

@@ -6,7 +6,8 @@ use mathlib.Core.List.{reverse-cons}
 use native.Mathlib.Nat.{mod-add-div}
 use lib.ListN.{length-reverse, get_or-append, get_or-eq_default}
 use lib.Seq.{get_or-append_seam}
-use Rattle.memory.specs.Bytes.{Bytes, bytes_of}
+use Rattle.std.specs.Int.{swap_bytes, w64}
+use Rattle.memory.specs.Bytes.{Bytes, value, bytes_of}
 use Rattle.bits.specs.declared.Order.{Order}
 use Rattle.bits.specs.declared.Order.TheVariants.{Little, Big}
 use Rattle.bits.specs.Bits.{bit, number, frame_bit}
@@ -60,6 +61,11 @@ turned_bit Big w p h =
     ∙ reverse_bit (bytes_of 8 w) (ap length (bytes_of_frame 8 w) ∙ frame_length 8 (bit w)) p h
     ∙ ap (λ (f : List ℕ). frame_bit f (position Big p)) (bytes_of_frame 8 w)
     ∙ frame_bit_lem 8 (bit w) (bit_lt w) (position Big p) (position_lt Big p h)
+
+-- std's bytes in the other order
+pub bytes_swapped : (w : ℕ) → swap_bytes w64 w ≡ bytes_reversed w
+unfolding bytes_reversed value bytes_of
+bytes_swapped w = omega arith
 
 -- a field is a run of bits
 pub field_number : (w at size : ℕ) → bit_field w at size ≡ number size (λ i. bit w (at + i))

@@ -2,41 +2,22 @@
 ghost use Rattle.std.specs.Prelude.{◌≡◌, ◌+◌, ◌-◌, ◌^◌, ◌<◌, ◌≤◌};
 ghost use Rattle.memory.specs.Search.{pick};
 ghost use Rattle.bits.specs.Bits.{extended};
-ghost use Rattle.bits.specs.Slots.{bytes_reversed, turned, with_bit_field, bit_field};
+ghost use Rattle.bits.specs.Slots.{turned, with_bit_field, bit_field};
 
 use super::Order;
 
-// The word with its bytes in the other order.
-fn swap_bytes(word: u64) -> u64
-    ensures { result ≡ bytes_reversed word }
-{
-    let b = word / 256;
-    let c = b / 256;
-    let d = c / 256;
-    let e = d / 256;
-    let f = e / 256;
-    let g = f / 256;
-    let h = g / 256;
-    let s = b % 256 + 256 * (word % 256);
-    let t = c % 256 + 256 * s;
-    let u = d % 256 + 256 * t;
-    let v = e % 256 + 256 * u;
-    let w = f % 256 + 256 * v;
-    let x = g % 256 + 256 * w;
-    h % 256 + 256 * x
-}
-
 // The word whose bits stand in the order's walk, from one whose bits stand by their I-PDU places; and back.
+#[tactic(auto, using(crate::proofs::Slots::bytes_swapped), unfolding(crate::specs::Slots::turned))]
 pub(crate) fn turned(order: Order, word: u64) -> u64
     ensures { result ≡ turned order word }
 {
     match order {
         Order::Little => word,
-        Order::Big => swap_bytes(word),
+        Order::Big => word.swap_bytes(),
     }
 }
 
-// 2 to the power n.
+// 2 to the power n. A shift says it in one step; callers in other crates have its contract in place of a law about shifts.
 pub fn power_of_two(n: u32) -> u64
     requires { n < 64 }
     ensures { result ≡ 2 ^ n }
@@ -45,6 +26,7 @@ pub fn power_of_two(n: u32) -> u64
 }
 
 // `bits` bits of the word, from bit `at` on.
+#[tactic(auto, unfolding(crate::specs::Slots::bit_field))]
 pub(crate) fn field(word: u64, at: u32, bits: u32) -> u32
     requires { (at < 64) × (bits ≤ 32) }
     ensures { result ≡ bit_field word at bits }
@@ -60,7 +42,7 @@ pub(crate) fn extended(signed: bool, bits: u32, field: u32) -> u32
 {
     let top = top_bit(signed, bits);
     let turned = (field as u64 + top) % power_of_two(bits);
-    std::num::wrapping_sub_u32(turned as u32, top as u32)
+    (turned as u32).wrapping_sub(top as u32)
 }
 
 // The top bit of a signed field, 0 of another.
@@ -72,6 +54,7 @@ fn top_bit(signed: bool, bits: u32) -> u64
 }
 
 // The word with the low `bits` bits of `x` from bit `at` on: the bits of the field that differ are inverted.
+#[tactic(auto, using(crate::proofs::Slots::field_lt, crate::proofs::Xor::field_difference))]
 pub(crate) fn with_field(word: u64, at: u32, bits: u32, x: u32) -> u64
     requires { (at + bits ≤ 64) × (at < 64) × (bits ≤ 32) }
     ensures { result ≡ with_bit_field word at bits x }

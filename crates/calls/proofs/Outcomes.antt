@@ -1,6 +1,6 @@
 -- What the calls ask and give, from what their steps gave. The laws ask for plain values, so that a search finds them.
 -- Assumes nothing.
-use Rattle.std.proofs.Common.{Bool, true, false, List, [], inl, ◌≡◌, sym, ap, ◌∙◌, ℕ, ◌+◌, ◌*◌, ◌^◌, ◌≤◌, ◌<◌, arith, lt-ltb, le-ltb, eq-eqb, ne_eqb, ltb, eqb, length}
+use Rattle.std.proofs.Common.{Bool, true, false, List, [], inl, ◌≡◌, sym, ap, ◌∙◌, ℕ, ◌+◌, ◌*◌, ◌^◌, ◌≤◌, ◌<◌, arith, lt-ltb, le-ltb, eq-eqb, ne_eqb, ltb, eqb, length, Err}
 use Rattle.memory.specs.Bytes.{Bytes, replaced}
 use Rattle.memory.specs.Search.{pick}
 use Rattle.filter.specs.Filters.{CountFits}
@@ -24,8 +24,9 @@ use Rattle.message.proofs.ObjectSteps.{placed_after}
 use Rattle.message.proofs.ObjectsInRange.{right_start, ready_held, decoded_count, decoded_placed}
 use Rattle.delivery.proofs.DeliveriesInRange.{ready_inside}
 use Rattle.transmission.specs.Requests.{ipdu, is_due, after_request, copied_to_area, confirmed, timer_set}
-use Rattle.calls.specs.declared.Answer.{Answer}
-use Rattle.calls.specs.declared.Answer.TheVariants.{Done, WrongId, WrongLength, NoMessage, NotRequested}
+use Rattle.calls.specs.Answers.{Answer}
+use Rattle.calls.specs.Answers.{done_with}
+use Rattle.calls.specs.declared.Refusal.TheVariants.{WrongId, WrongLength, NoMessage, NotRequested}
 use Rattle.calls.specs.Answers.{Outcome, outcome}
 use Rattle.calls.specs.Calls.{HasIpdu, is_object, is_ipdu, wants, request, send_of, send_in, initialise_in, limited, receive_queued, receive_in, status_of, status_in}
 use Rattle.calls.specs.Calls.{marks_in, clear_marks_in, indication_of, indication_in, confirm_in}
@@ -41,16 +42,16 @@ past_all i n x y h = rw (le-ltb _ _ h)
 -- ---- an object in the table
 
 pub initialised : (t : List ℕ) (c : Counts) (i v : ℕ) (m n : List ℕ) (o : Object) → i < c.objects → o ≡ object t c i → n ≡ initialise o i v m
-    → outcome (Done 0) n [] ≡ initialise_in t c i v m
+    → outcome (done_with 0) n [] ≡ initialise_in t c i v m
 unfolding initialise_in
 initialised t c i v m n o low same does = rw (lt-ltb _ _ low, does, same)
 
 module _ (c : Counts) (i : ℕ) (m : List ℕ) (s : ObjectState) (low : i < c.objects) (row : s ≡ object_state m i) where
-  pub marks_given : outcome (Done s.marks) m [] ≡ marks_in c i m
+  pub marks_given : outcome (done_with s.marks) m [] ≡ marks_in c i m
   unfolding marks_in
   marks_given = rw (lt-ltb _ _ low, row)
 
-  pub marks_cleared_lem : (n : List ℕ) → n ≡ with_object_state m i (with_marks 0 s) → outcome (Done 0) n [] ≡ clear_marks_in c i m
+  pub marks_cleared_lem : (n : List ℕ) → n ≡ with_object_state m i (with_marks 0 s) → outcome (done_with 0) n [] ≡ clear_marks_in c i m
   unfolding clear_marks_in
   marks_cleared_lem n set = rw (lt-ltb _ _ low, set, row)
 
@@ -94,7 +95,7 @@ module _ (t : List ℕ) (c : Counts) (kind i : ℕ) (found : Bool) (e : found �
 
 module _ (t : List ℕ) (c : Counts) (i : ℕ) (m : List ℕ) (found : Bool) (e : found ≡ is_object t c receiving i) (there : found ≡ true)
     (r : ObjectRecord) (same : r ≡ object_record t c.ipdus i) where
-  pub received : (s : ObjectState) → r.depth ≡ 0 → s ≡ object_state m i → outcome (Done s.value) m [] ≡ receive_in t c i m
+  pub received : (s : ObjectState) → r.depth ≡ 0 → s ≡ object_state m i → outcome (done_with s.value) m [] ≡ receive_in t c i m
   unfolding receive_in
   received s none row = rw (is_true e there, ← same, eq-eqb _ _ none, row)
 
@@ -102,7 +103,7 @@ module _ (t : List ℕ) (c : Counts) (i : ℕ) (m : List ℕ) (found : Bool) (e 
   unfolding receive_in
   received_queued a n some does = rw (is_true e there, ← same, ne_eqb _ _ some) does
 
-  pub status_unqueued : r.depth ≡ 0 → outcome WrongId m [] ≡ status_in t c i m
+  pub status_unqueued : r.depth ≡ 0 → outcome (Err WrongId) m [] ≡ status_in t c i m
   unfolding status_in
   status_unqueued none = rw (is_true e there, ← same, eq-eqb _ _ none)
 
@@ -111,12 +112,12 @@ module _ (t : List ℕ) (c : Counts) (i : ℕ) (m : List ℕ) (found : Bool) (e 
   status_queued s a some row does = rw (is_true e there, ← same, ne_eqb _ _ some, does, row)
 
 pub status_none : (t : List ℕ) (c : Counts) (i : ℕ) (m : List ℕ) (found : Bool) → found ≡ is_object t c receiving i → found ≡ false
-    → outcome WrongId m [] ≡ status_in t c i m
+    → outcome (Err WrongId) m [] ≡ status_in t c i m
 unfolding status_in
 status_none t c i m found e failed = rw (sym e ∙ failed)
 
 module _ (depth i : ℕ) (m : List ℕ) (s : ObjectState) (row : s ≡ object_state m i) where
-  pub queue_empty : s.count ≡ 0 → outcome NoMessage m [] ≡ receive_queued depth i m
+  pub queue_empty : s.count ≡ 0 → outcome (Err NoMessage) m [] ≡ receive_queued depth i m
   queue_empty none = rw (← row, eq-eqb _ _ none)
 
   pub queue_some : (s.count ≡ 0 → ⊥) → 0 < (object_state m i).count
@@ -131,7 +132,7 @@ module _ (depth i : ℕ) (m : List ℕ) (s : ObjectState) (row : s ≡ object_st
 module _ (t : List ℕ) (c : Counts) (i v : ℕ) (area m n q : List ℕ) (found passed : Bool) (o : Object)
     (e : found ≡ is_object t c sending i) (there : found ≡ true) (same : o ≡ object t c i) (inside : n ≡ deliver_inside t c i v m)
     (judge : passed ≡ passes_filter o v (object_state n i)) (row : q ≡ with_object_state n i (after_filter passed o v (object_state n i))) where
-  pub send_dropped : passed ≡ false → outcome (Done 0) q area ≡ send_in t c i v area m
+  pub send_dropped : passed ≡ false → outcome (done_with 0) q area ≡ send_in t c i v area m
   unfolding send_in send_of
   send_dropped failed = rw (is_true e there, ← same, ← inside, ← judge, ← row, failed)
 
@@ -159,7 +160,7 @@ module _ (t : List ℕ) (o : Object) (found : Bool) (has : HasIpdu t o) (e : fou
 
   pub requested : (area m n b : List ℕ) (w : ℕ) (p : Ipdu) (s : IpduState) → p ≡ ipdu t o.ipdu.0 → s ≡ ipdu_state m o.ipdu.0
       → w ≡ pick (is_due p (with_wanted 1 s)) (2 ^ o.ipdu.0) 0 → n ≡ with_ipdu_state m o.ipdu.0 (after_request p (with_wanted 1 s))
-      → b ≡ pick (is_due p (with_wanted 1 s)) (copied_to_area p.length.0 o.ipdu.0 m area) area → outcome (Done w) n b ≡ request t o area m
+      → b ≡ pick (is_due p (with_wanted 1 s)) (copied_to_area p.length.0 o.ipdu.0 m area) area → outcome (done_with w) n b ≡ request t o area m
   unfolding request
   requested area m n b w p s same row word sets hands = rw (is_true e there, word, sets, hands, same, row)
 
@@ -182,13 +183,13 @@ module _ (t : List ℕ) (c : Counts) (direction k : ℕ) (found : Bool) (e : fou
 
 module _ (t : List ℕ) (c : Counts) (k : ℕ) (good : Bool) (m : List ℕ) (found : Bool) (s : IpduState)
     (e : found ≡ is_ipdu t c sending k) (there : found ≡ true) (row : s ≡ ipdu_state m k) where
-  pub not_requested : s.requested ≡ 0 → outcome NotRequested m [] ≡ confirm_in t c k good m
+  pub not_requested : s.requested ≡ 0 → outcome (Err NotRequested) m [] ≡ confirm_in t c k good m
   unfolding confirm_in
   not_requested none = rw (is_true e there, ← row, eq-eqb _ _ none)
 
   pub confirms : (p : Ipdu) (n q : List ℕ) (mark : ℕ) → (s.requested ≡ 0 → ⊥) → p ≡ ipdu t k
       → n ≡ with_ipdu_state m k (confirmed good p (ipdu_state m k)) → mark ≡ pick good mark_sent mark_send_error → q ≡ mark_objects t c k mark n
-      → outcome (Done 0) q [] ≡ confirm_in t c k good m
+      → outcome (done_with 0) q [] ≡ confirm_in t c k good m
   unfolding confirm_in
   confirms p n q mark some same closes which marks =
       rw (is_true e there, marks, which, closes, same, ap (λ (s : IpduState). eqb s.requested 0) (sym row) ∙ ne_eqb _ _ some)
@@ -196,7 +197,7 @@ module _ (t : List ℕ) (c : Counts) (k : ℕ) (good : Bool) (m : List ℕ) (fou
 -- ---- indication
 
 module _ (t : List ℕ) (c : Counts) (k : ℕ) (good : Bool) (bytes m n : List ℕ) (found : Bool) (e : found ≡ is_ipdu t c receiving k) (there : found ≡ true) where
-  pub indicates_bad : good ≡ false → n ≡ mark_objects t c k mark_receive_error m → outcome (Done 0) n [] ≡ indication_in t c k good bytes m
+  pub indicates_bad : good ≡ false → n ≡ mark_objects t c k mark_receive_error m → outcome (done_with 0) n [] ≡ indication_in t c k good bytes m
   unfolding indication_in
   indicates_bad bad marks = rw (is_true e there, bad, marks)
 
@@ -205,7 +206,7 @@ module _ (t : List ℕ) (c : Counts) (k : ℕ) (good : Bool) (bytes m n : List �
   indicates_good a fine does = rw (is_true e there, fine) does
 
 module _ (t : List ℕ) (c : Counts) (k : ℕ) (bytes m : List ℕ) (p : Ipdu) (same : p ≡ ipdu t k) where
-  pub wrong_length : (length bytes ≡ p.length.0 → ⊥) → outcome WrongLength m [] ≡ indication_of true t c k bytes m
+  pub wrong_length : (length bytes ≡ p.length.0 → ⊥) → outcome (Err WrongLength) m [] ≡ indication_of true t c k bytes m
   unfolding ipdu_of
   wrong_length other = rw (ne_eqb _ _ (λ e. other (e ∙ sym (ap (λ (p : Ipdu). p.length.0) same))))
 
@@ -228,5 +229,5 @@ module _ (t : List ℕ) (c : Counts) (k : ℕ) (bytes m : List ℕ) (p : Ipdu) (
           (inl (omega arith, omega (arith, frame_exact, ipdu_short t c ready.right k low, ready.right.shape.ipdus))))
 
     pub frame_taken : (n d q : List ℕ) → n ≡ replaced (slot_at k) bytes m → d ≡ deliver_frame t c k n → q ≡ with_ipdu_state d k (timer_set p (ipdu_state d k))
-        → outcome (Done 0) q [] ≡ indication_of true t c k bytes m
+        → outcome (done_with 0) q [] ≡ indication_of true t c k bytes m
     frame_taken n d q copies delivers sets = rw (eq-eqb _ _ frame_exact, sets, delivers, copies, same)

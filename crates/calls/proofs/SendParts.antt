@@ -16,7 +16,7 @@ use Rattle.message.specs.Objects.{object, passes_filter, after_filter, start_bit
 use Rattle.delivery.specs.Delivery.{deliver_inside}
 use Rattle.message.proofs.ObjectsInRange.{kept_after_filter}
 use Rattle.delivery.proofs.DeliveriesInRange.{ready_inside}
-use Rattle.calls.specs.declared.Answer.TheVariants.{Done}
+use Rattle.calls.specs.Answers.{done_with}
 use Rattle.calls.specs.Answers.{outcome}
 use Rattle.calls.specs.Calls.{is_object, request, send_of, send_in}
 use Rattle.calls.proofs.Records.{object_there}
@@ -65,6 +65,6 @@ module _ (t : List ℕ) (c : Counts) (m : List ℕ) (ready : Ready t c m) (i : �
   after_ready = ready_object t c inner inner_ready i here (after_filter judge (object t c i) v (object_state inner i)) after_kept
 
   pub sent_as : (b : Bool) → judge ≡ b
-      → send_in t c i v area m ≡ pick b (request t (object t c i) area (pack (object t c i) v after)) (outcome (Done 0) after area)
+      → send_in t c i v area m ≡ pick b (request t (object t c i) area (pack (object t c i) v after)) (outcome (done_with 0) after area)
   unfolding send_in send_of
-  sent_as b p = rw is (ap (λ (x : Bool). pick x (request t (object t c i) area (pack (object t c i) v after)) (outcome (Done 0) after area)) p)
+  sent_as b p = rw is (ap (λ (x : Bool). pick x (request t (object t c i) area (pack (object t c i) v after)) (outcome (done_with 0) after area)) p)

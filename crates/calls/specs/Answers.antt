@@ -1,32 +1,38 @@
--- Document 01, "What comes back": the number of an answer, what it returns, and what a call gives.
+-- Document 01, "What comes back": what a call answers, the number of an answer, what it returns, and what a call gives.
 -- Assumes nothing.
-use Rattle.std.specs.Prelude.{List, ℕ}
-use Rattle.calls.specs.declared.Answer.{Answer}
-use Rattle.calls.specs.declared.Answer.TheVariants.{Done, WrongId, WrongLength, Limit, NoMessage, WrongTable, WrongMemory, Stopped, NotRequested}
+use Rattle.std.specs.Prelude.{List, ℕ, Result, Ok, Err}
+use Rattle.calls.specs.declared.Success.{Success}
+use Rattle.calls.specs.declared.Success.TheVariants.{Done, Limit}
+use Rattle.calls.specs.declared.Refusal.{Refusal}
+use Rattle.calls.specs.declared.Refusal.TheVariants.{WrongId, WrongLength, NoMessage, WrongTable, WrongMemory, Stopped, NotRequested}
+
+-- a value, with the number for a value lost where one was; or why the call is refused
+abbrev pub Answer : Type 0
+Answer = Result Success Refusal
+
+abbrev pub done_with : ℕ → Answer
+done_with value = Ok (Done value)
+
+abbrev pub limit_with : ℕ → Answer
+limit_with value = Ok (Limit value)
 
 -- the paper's number of an answer
 abbrev pub number_of : Answer → ℕ
-number_of (Done value) = 0
-number_of WrongId = 1
-number_of WrongLength = 2
-number_of (Limit value) = 3
-number_of NoMessage = 4
-number_of WrongTable = 5
-number_of WrongMemory = 6
-number_of Stopped = 7
-number_of NotRequested = 8
+number_of (Ok (Done value)) = 0
+number_of (Err WrongId) = 1
+number_of (Err WrongLength) = 2
+number_of (Ok (Limit value)) = 3
+number_of (Err NoMessage) = 4
+number_of (Err WrongTable) = 5
+number_of (Err WrongMemory) = 6
+number_of (Err Stopped) = 7
+number_of (Err NotRequested) = 8
 
 -- what is returned with it
 abbrev pub value_of : Answer → ℕ
-value_of (Done value) = value
-value_of WrongId = 0
-value_of WrongLength = 0
-value_of (Limit value) = value
-value_of NoMessage = 0
-value_of WrongTable = 0
-value_of WrongMemory = 0
-value_of Stopped = 0
-value_of NotRequested = 0
+value_of (Ok (Done value)) = value
+value_of (Ok (Limit value)) = value
+value_of (Err refusal) = 0
 
 -- what a call gives: its answer, working memory, and the request area, [] for a call that is lent none
 pub record Outcome : Type 0 where

@@ -1,6 +1,6 @@
 -- Document 01, "Calls", in its order: what each call does over an accepted table and a working memory in range.
 -- Assumes nothing.
-use Rattle.std.specs.Prelude.{Bool, true, false, not, ◌&&◌, List, [], ◌≡◌, ℕ, ◌+◌, ◌*◌, ◌^◌, ◌≤◌, ◌<◌, ltb, eqb, length}
+use Rattle.std.specs.Prelude.{Bool, true, false, not, ◌&&◌, List, [], ◌≡◌, ℕ, ◌+◌, ◌*◌, ◌^◌, ◌≤◌, ◌<◌, ltb, eqb, length, Err}
 use Rattle.memory.specs.Bytes.{replaced}
 use Rattle.memory.specs.Search.{pick}
 use Rattle.table.specs.declared.Counts.{Counts}
@@ -20,8 +20,9 @@ use Rattle.queue.specs.Queues.{oldest, dequeue}
 use Rattle.delivery.specs.Delivery.{deliver_inside, deliver_frame, mark_objects}
 use Rattle.transmission.specs.Requests.{ipdu, is_due, after_request, copied_to_area, confirmed, timer_set}
 use Rattle.timing.specs.Periods.{set_periods}
-use Rattle.calls.specs.declared.Answer.{Answer}
-use Rattle.calls.specs.declared.Answer.TheVariants.{Done, WrongId, WrongLength, Limit, NoMessage, NotRequested}
+use Rattle.calls.specs.Answers.{Answer}
+use Rattle.calls.specs.Answers.{done_with, limit_with}
+use Rattle.calls.specs.declared.Refusal.TheVariants.{WrongId, WrongLength, NoMessage, NotRequested}
 use Rattle.calls.specs.Answers.{Outcome, outcome}
 
 -- the I-PDU of an object, where it has one, is in the table
@@ -41,7 +42,7 @@ is_ipdu t c direction k = ltb k c.ipdus && eqb (ipdu_record t k).direction direc
 -- ---- stop: from now on the layer does not run; all else stays
 
 unfoldable pub stop_in : List ℕ → Outcome
-stop_in m = outcome (Done 0) (with_running m 0) []
+stop_in m = outcome (done_with 0) (with_running m 0) []
 
 -- ---- send: first the receivers inside get the value, then the filter judges it; one that passes is packed. A triggered object of a
 -- direct or mixed I-PDU then wants a request, made at once where it may go. The word has a bit for the I-PDU requested.
@@ -60,15 +61,15 @@ wants t o = not (eqb o.ipdu.0 absent) && is_triggered o.transfer && not (is_peri
 
 abbrev pub try_request : Ipdu → ℕ → IpduState → List ℕ → List ℕ → Outcome
 try_request p k s area m =
-    outcome (Done (pick (is_due p s) (2 ^ k) 0)) (with_ipdu_state m k (after_request p s)) (pick (is_due p s) (copied_to_area p.length.0 k m area) area)
+    outcome (done_with (pick (is_due p s) (2 ^ k) 0)) (with_ipdu_state m k (after_request p s)) (pick (is_due p s) (copied_to_area p.length.0 k m area) area)
 
 unfoldable pub request : List ℕ → Object → List ℕ → List ℕ → Outcome
 request t o area m =
     pick (wants t o) (try_request (ipdu t o.ipdu.0) o.ipdu.0 (with_wanted 1 (ipdu_state m o.ipdu.0)) area m)
-    (outcome (Done 0) m area)
+    (outcome (done_with 0) m area)
 
 abbrev pub if_passed : Bool → List ℕ → Object → ℕ → List ℕ → List ℕ → Outcome
-if_passed passed t o v area m = pick passed (request t o area (pack o v m)) (outcome (Done 0) m area)
+if_passed passed t o v area m = pick passed (request t o area (pack o v m)) (outcome (done_with 0) m area)
 
 abbrev pub filter_send : List ℕ → Object → ℕ → ℕ → List ℕ → List ℕ → Outcome
 filter_send t o i v area m =
@@ -79,53 +80,53 @@ unfoldable pub send_of : List ℕ → Counts → ℕ → ℕ → List ℕ → Li
 send_of t c i v area m = filter_send t (object t c i) i v area (deliver_inside t c i v m)
 
 unfoldable pub send_in : List ℕ → Counts → ℕ → ℕ → List ℕ → List ℕ → Outcome
-send_in t c i v area m = pick (is_object t c sending i) (send_of t c i v area m) (outcome WrongId m area)
+send_in t c i v area m = pick (is_object t c sending i) (send_of t c i v area m) (outcome (Err WrongId) m area)
 
 -- ---- initialise
 
 unfoldable pub initialise_in : List ℕ → Counts → ℕ → ℕ → List ℕ → Outcome
-initialise_in t c i v m = pick (ltb i c.objects) (outcome (Done 0) (initialise (object t c i) i v m) []) (outcome WrongId m [])
+initialise_in t c i v m = pick (ltb i c.objects) (outcome (done_with 0) (initialise (object t c i) i v m) []) (outcome (Err WrongId) m [])
 
 -- ---- receive: the value of an unqueued object; of a queue the oldest, which is taken out. 4 where the queue is empty; 3 after an
 -- overflow, with the oldest
 
 abbrev pub limited : ObjectState → ℕ → Answer
-limited s v = pick (eqb s.overflow 0) (Done v) (Limit v)
+limited s v = pick (eqb s.overflow 0) (done_with v) (limit_with v)
 
 abbrev pub receive_queued : ℕ → ℕ → List ℕ → Outcome
 receive_queued depth i m =
-    pick (eqb (object_state m i).count 0) (outcome NoMessage m [])
+    pick (eqb (object_state m i).count 0) (outcome (Err NoMessage) m [])
     (outcome (limited (object_state m i) (oldest depth i m)) (dequeue depth i m) [])
 
 abbrev pub receive_of : ℕ → ℕ → List ℕ → Outcome
-receive_of depth i m = pick (eqb depth 0) (outcome (Done (object_state m i).value) m []) (receive_queued depth i m)
+receive_of depth i m = pick (eqb depth 0) (outcome (done_with (object_state m i).value) m []) (receive_queued depth i m)
 
 unfoldable pub receive_in : List ℕ → Counts → ℕ → List ℕ → Outcome
-receive_in t c i m = pick (is_object t c receiving i) (receive_of (object_record t c.ipdus i).depth i m) (outcome WrongId m [])
+receive_in t c i m = pick (is_object t c receiving i) (receive_of (object_record t c.ipdus i).depth i m) (outcome (Err WrongId) m [])
 
 -- ---- status, of queued objects only, changes nothing
 
 abbrev pub status_of : ObjectState → Answer
-status_of s = pick (eqb s.count 0) NoMessage (limited s 0)
+status_of s = pick (eqb s.count 0) (Err NoMessage) (limited s 0)
 
 unfoldable pub status_in : List ℕ → Counts → ℕ → List ℕ → Outcome
 status_in t c i m =
     pick (is_object t c receiving i && not (eqb (object_record t c.ipdus i).depth 0)) (outcome (status_of (object_state m i)) m [])
-    (outcome WrongId m [])
+    (outcome (Err WrongId) m [])
 
 -- ---- marks, clear marks: all four of an object are read, or cleared
 
 unfoldable pub marks_in : Counts → ℕ → List ℕ → Outcome
-marks_in c i m = pick (ltb i c.objects) (outcome (Done (object_state m i).marks) m []) (outcome WrongId m [])
+marks_in c i m = pick (ltb i c.objects) (outcome (done_with (object_state m i).marks) m []) (outcome (Err WrongId) m [])
 
 unfoldable pub clear_marks_in : Counts → ℕ → List ℕ → Outcome
 clear_marks_in c i m =
-    pick (ltb i c.objects) (outcome (Done 0) (with_object_state m i (with_marks 0 (object_state m i))) []) (outcome WrongId m [])
+    pick (ltb i c.objects) (outcome (done_with 0) (with_object_state m i (with_marks 0 (object_state m i))) []) (outcome (Err WrongId) m [])
 
 -- ---- start periodic and stop periodic
 
 unfoldable pub periodic_in : Bool → List ℕ → Counts → List ℕ → Outcome
-periodic_in on t c m = outcome (Done 0) (set_periods on t c m) []
+periodic_in on t c m = outcome (done_with 0) (set_periods on t c m) []
 
 -- ---- indication: of a good one the bytes become the I-PDU's, each of its objects is delivered its bits, by rising number, and the timer
 -- becomes R. A bad one sets receive error for all its objects, whatever its bytes
@@ -135,12 +136,12 @@ timed t k m = with_ipdu_state m k (timer_set (ipdu t k) (ipdu_state m k))
 
 abbrev pub indication_of : Bool → List ℕ → Counts → ℕ → List ℕ → List ℕ → Outcome
 indication_of true t c k bytes m =
-    pick (eqb (length bytes) (ipdu_record t k).length) (outcome (Done 0) (timed t k (deliver_frame t c k (replaced (slot_at k) bytes m))) [])
-    (outcome WrongLength m [])
-indication_of false t c k bytes m = outcome (Done 0) (mark_objects t c k mark_receive_error m) []
+    pick (eqb (length bytes) (ipdu_record t k).length) (outcome (done_with 0) (timed t k (deliver_frame t c k (replaced (slot_at k) bytes m))) [])
+    (outcome (Err WrongLength) m [])
+indication_of false t c k bytes m = outcome (done_with 0) (mark_objects t c k mark_receive_error m) []
 
 unfoldable pub indication_in : List ℕ → Counts → ℕ → Bool → List ℕ → List ℕ → Outcome
-indication_in t c k good bytes m = pick (is_ipdu t c receiving k) (indication_of good t c k bytes m) (outcome WrongId m [])
+indication_in t c k good bytes m = pick (is_ipdu t c receiving k) (indication_of good t c k bytes m) (outcome (Err WrongId) m [])
 
 -- ---- confirm closes the open request, and marks sent or send error on its objects
 
@@ -151,5 +152,5 @@ confirm_of good t c k m =
 unfoldable pub confirm_in : List ℕ → Counts → ℕ → Bool → List ℕ → Outcome
 confirm_in t c k good m =
     pick (is_ipdu t c sending k)
-    (pick (eqb (ipdu_state m k).requested 0) (outcome NotRequested m []) (outcome (Done 0) (confirm_of good t c k m) []))
-    (outcome WrongId m [])
+    (pick (eqb (ipdu_state m k).requested 0) (outcome (Err NotRequested) m []) (outcome (done_with 0) (confirm_of good t c k m) []))
+    (outcome (Err WrongId) m [])

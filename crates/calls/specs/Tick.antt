@@ -11,7 +11,7 @@ use Rattle.message.specs.Objects.{mark_receive_error, mark_send_error}
 use Rattle.delivery.specs.Delivery.{mark_objects}
 use Rattle.transmission.specs.Requests.{ipdu}
 use Rattle.timing.specs.Ticks.{tick_delay, deadline_expires, tick_deadline, tick_period, timer_expires, tick_timer}
-use Rattle.calls.specs.declared.Answer.TheVariants.{Done}
+use Rattle.calls.specs.Answers.{done_with}
 use Rattle.calls.specs.Answers.{Outcome, outcome, value_of}
 use Rattle.calls.specs.Calls.{try_request}
 
@@ -23,7 +23,7 @@ send_tick t c k s area m =
 -- a receive I-PDU: the timer, with receive error on its objects where that runs out
 abbrev pub receive_tick : List ℕ → Counts → ℕ → IpduState → List ℕ → List ℕ → Outcome
 receive_tick t c k s area m =
-    outcome (Done 0) (with_ipdu_state (pick (timer_expires s) (mark_objects t c k mark_receive_error m) m) k (tick_timer (ipdu t k) s)) area
+    outcome (done_with 0) (with_ipdu_state (pick (timer_expires s) (mark_objects t c k mark_receive_error m) m) k (tick_timer (ipdu t k) s)) area
 
 abbrev pub tick_as : Direction → List ℕ → Counts → ℕ → List ℕ → List ℕ → Outcome
 tick_as Send t c k area m = send_tick t c k (tick_delay (ipdu_state m k)) area m
@@ -52,4 +52,4 @@ ticks t c n area m = fold n (tick_turn t c) (tick_result 0 m area)
 
 unfoldable pub tick_in : List ℕ → Counts → List ℕ → List ℕ → Outcome
 tick_in t c area m =
-    outcome (Done (ticks t c c.ipdus area m).word) (ticks t c c.ipdus area m).memory (ticks t c c.ipdus area m).area
+    outcome (done_with (ticks t c c.ipdus area m).word) (ticks t c c.ipdus area m).memory (ticks t c c.ipdus area m).area

@@ -2,22 +2,22 @@
 ghost use Rattle.std.specs.Prelude.{◌≡◌};
 ghost use Rattle.calls.specs.Answers.{number_of, value_of};
 
-use super::Answer;
+use super::{Answer, Refusal, Success};
 
 // Document 01's number of an answer.
 pub fn number_of(answer: Answer) -> u32
     ensures { result ≡ number_of answer }
 {
     match answer {
-        Answer::Done(_) => 0,
-        Answer::WrongId => 1,
-        Answer::WrongLength => 2,
-        Answer::Limit(_) => 3,
-        Answer::NoMessage => 4,
-        Answer::WrongTable => 5,
-        Answer::WrongMemory => 6,
-        Answer::Stopped => 7,
-        Answer::NotRequested => 8,
+        Ok(Success::Done(_)) => 0,
+        Err(Refusal::WrongId) => 1,
+        Err(Refusal::WrongLength) => 2,
+        Ok(Success::Limit(_)) => 3,
+        Err(Refusal::NoMessage) => 4,
+        Err(Refusal::WrongTable) => 5,
+        Err(Refusal::WrongMemory) => 6,
+        Err(Refusal::Stopped) => 7,
+        Err(Refusal::NotRequested) => 8,
     }
 }
 
@@ -26,14 +26,7 @@ pub fn value_of(answer: Answer) -> u32
     ensures { result ≡ value_of answer }
 {
     match answer {
-        Answer::Done(value) => value,
-        Answer::Limit(value) => value,
-        Answer::WrongId => 0,
-        Answer::WrongLength => 0,
-        Answer::NoMessage => 0,
-        Answer::WrongTable => 0,
-        Answer::WrongMemory => 0,
-        Answer::Stopped => 0,
-        Answer::NotRequested => 0,
+        Ok(Success::Done(value) | Success::Limit(value)) => value,
+        Err(_) => 0,
     }
 }

@@ -6,19 +6,40 @@
 mod answers;
 mod numbers;
 
+ghost use Rattle.std.specs.Prelude.{◌≡◌};
+ghost use Rattle.calls.specs.declared.Refusal.TheVariants.{WrongTable};
+
 pub use answers::{number_of, value_of};
 pub use numbers::{is_ipdu, is_object};
+use table::WrongRecord;
 
-// What a call answers: done, with its result, or why not.
-#[derive(Clone, Copy)]
-pub enum Answer {
+// What a call gives that is not refused: its result, or with `Limit` a value and that one was lost before.
+#[derive(Clone, Copy, Debug, PartialEq, Eq)]
+pub enum Success {
     Done(u32),
+    Limit(u32),
+}
+
+// Why a call is refused.
+#[derive(Clone, Copy, Debug, PartialEq, Eq)]
+pub enum Refusal {
     WrongId,
     WrongLength,
-    Limit(u32),
     NoMessage,
     WrongTable,
     WrongMemory,
     Stopped,
     NotRequested,
 }
+
+// A call over a wrong table is refused, whichever record is wrong.
+impl From<WrongRecord> for Refusal {
+    ghost from_gives = { λ _ r. r ≡ WrongTable };
+
+    fn from(_wrong: WrongRecord) -> Refusal {
+        Refusal::WrongTable
+    }
+}
+
+// What a call answers.
+pub type Answer = Result<Success, Refusal>;

@@ -1,17 +1,15 @@
 -- A case over calls is computed faster where working memory is exactly as long as what is used of it: nothing is split off and joined
 -- again. Each step looks at the length, so the law asks for nothing. Assumes nothing.
-use Rattle.std.proofs.Common.{Bool, true, false, List, [], ◌∷◌, append-nil, ⊎_elim, ◌≡◌, refl, ap, sym, ◌∙◌, ℕ, arith, eqb-true, eqb, length, replicate, drop, take_all}
+use Rattle.std.proofs.Common.{Bool, true, false, List, [], ◌∷◌, append-nil, ⊎_elim, ◌≡◌, refl, ap, sym, ◌∙◌, ℕ, arith, eqb-true, eqb, length, replicate, drop, take_all, Result, Ok, Err}
 use lib.Seq.{drop-length}
 use Rattle.memory.specs.Search.{pick}
 use Rattle.memory.proofs.Tests.{true_or_false}
 use Rattle.table.specs.declared.Counts.{Counts}
-use Rattle.table.specs.declared.Verdict.{Verdict}
-use Rattle.table.specs.declared.Verdict.TheVariants.{Accepted, WrongHeader, WrongIpdu, WrongObject}
+use Rattle.table.specs.declared.WrongRecord.{WrongRecord}
 use Rattle.table.specs.Check.{check}
 use Rattle.state.specs.Layout.{memory_size}
-use Rattle.layer.specs.declared.Admission.{Admission}
-use Rattle.layer.specs.declared.Admission.TheVariants.{Admitted, Refused}
-use Rattle.calls.specs.declared.Answer.TheVariants.{WrongMemory, WrongTable}
+use Rattle.layer.specs.Admission.{Admission}
+use Rattle.calls.specs.declared.Refusal.TheVariants.{WrongMemory, WrongTable}
 use Rattle.calls.specs.Answers.{Outcome, outcome}
 use Rattle.layer.specs.Admission.{working_memory, admission_front, admission_of, admission, start_admission, if_admitted}
 use Rattle.layer.specs.Step.{Call, lent_bytes, long_enough, describe, step, run}
@@ -19,15 +17,13 @@ use Rattle.cases.specs.Case.{Case, packs, fits, passing, counting, checks, answe
 
 -- ---- a call on memory of exactly 8,192 bytes
 
-abbrev admission_exact : Verdict → List ℕ → List ℕ → Bool → Admission
-admission_exact (Accepted c) t m enough = pick enough (admission_front c t m) (Refused WrongMemory)
-admission_exact WrongHeader t m enough = Refused WrongTable
-admission_exact (WrongIpdu k) t m enough = Refused WrongTable
-admission_exact (WrongObject i) t m enough = Refused WrongTable
+abbrev admission_exact : Result Counts WrongRecord → List ℕ → List ℕ → Bool → Admission
+admission_exact (Ok c) t m enough = pick enough (admission_front c t m) (Err WrongMemory)
+admission_exact (Err wrong) t m enough = Err WrongTable
 
 abbrev if_admitted_exact : Admission → List ℕ → List ℕ → (Counts → List ℕ → Outcome) → Outcome
-if_admitted_exact (Admitted c) m area call = call c m
-if_admitted_exact (Refused a) m area call = outcome a m area
+if_admitted_exact (Ok c) m area call = call c m
+if_admitted_exact (Err r) m area call = outcome (Err r) m area
 
 abbrev admission_for_exact : List ℕ → Call → List ℕ → Admission
 admission_for_exact t call m =
@@ -43,20 +39,20 @@ module _ (t m : List ℕ) (long : length m ≡ memory_size) where
   none_after : drop memory_size m ≡ []
   none_after = ap (λ (n : ℕ). drop n m) (sym long) ∙ drop-length m
 
-  admission_exact_lem : (v : Verdict) (enough : Bool) → admission_of v t m enough ≡ admission_exact v t m enough
-  admission_exact_lem (Accepted c) enough = rw (long, whole) refl
-  admission_exact_lem WrongHeader enough = refl
-  admission_exact_lem (WrongIpdu k) enough = refl
-  admission_exact_lem (WrongObject i) enough = refl
+  admission_exact_lem : (v : Result Counts WrongRecord) (enough : Bool) → admission_of v t m enough ≡ admission_exact v t m enough
+  admission_exact_lem (Ok c) enough = rw (long, whole) refl
+  admission_exact_lem (Err wrong) enough = refl
 
   admitted_exact : (a : Admission) (area : List ℕ) (call : Counts → List ℕ → Outcome) → if_admitted a m area call ≡ if_admitted_exact a m area call
-  admitted_exact (Admitted c) area call =
+  admitted_exact (Ok c) area call =
       rw (whole, none_after) (ap (λ (l : List ℕ). outcome (call c m).answer l (call c m).area) (append-nil (call c m).memory))
-  admitted_exact (Refused a) area call = refl
+  admitted_exact (Err a) area call = refl
 
   step_exact_lem : (call : Call) → step t call m ≡ step_exact t call m
   unfolding step admission
-  step_exact_lem call = rw (admission_exact_lem (check t) (long_enough (describe call).lent)) (admitted_exact (admission_for_exact t call m) (lent_bytes (describe call).lent) ((describe call).does t))
+  step_exact_lem call =
+      rw (admission_exact_lem (check t) (long_enough (describe call).lent))
+      (admitted_exact (admission_for_exact t call m) (lent_bytes (describe call).lent) ((describe call).does t))
 
 -- ---- lists of calls
 

@@ -2,19 +2,20 @@
 -- list of calls with what each answers and hands over.
 -- Tables are put together from records. Working memory is one list of 8,192 equal bytes, nonzero before the start.
 -- Assumes nothing.
-use Rattle.std.specs.Prelude.{Bool, List, [], ◌∷◌, ◌++◌, ◌≡◌, ℕ, suc, ◌+◌, ◌*◌, replicate}
+use Rattle.std.specs.Prelude.{Bool, List, [], ◌∷◌, ◌++◌, ◌≡◌, ℕ, suc, ◌+◌, ◌*◌, replicate, Result}
 use Rattle.memory.specs.Bytes.{bytes_of, part}
 use Rattle.memory.specs.Search.{pick}
 use Rattle.bits.specs.declared.Order.{Order}
 use Rattle.bits.specs.Bits.{room, packed, unpacked, extended}
 use Rattle.filter.specs.declared.Filter.{Filter}
 use Rattle.filter.specs.Filters.{passes, next_count, filter_of}
-use Rattle.table.specs.declared.Verdict.{Verdict}
+use Rattle.table.specs.declared.WrongRecord.{WrongRecord}
 use Rattle.table.specs.Records.{table_length}
 use Rattle.table.specs.Check.{check}
 use Rattle.state.specs.Layout.{memory_size, area_size}
 use Rattle.calls.specs.Answers.{Outcome, number_of, value_of}
 use Rattle.layer.specs.Step.{Call, run}
+use Rattle.table.specs.declared.Counts.{Counts}
 
 -- a call, the number and value that it answers, and the bytes of some slots of its request area after it
 pub record Line : Type 0 where
@@ -40,7 +41,7 @@ pub data Case : Type 0 where
   fits : Order → (n size L : ℕ) → Bool → Case
   passing : (signed : Bool) (filter first second old occurrence : ℕ) (values passed : List ℕ) → Case
   counting : (filter first second : ℕ) (counts : List ℕ) → Case
-  checks : (table : List ℕ) → Verdict → Case
+  checks : (table : List ℕ) → Result Counts WrongRecord → Case
   answers : (table : List ℕ) → List Line → Case
 
 abbrev pub calls_of : List Line → List Call

@@ -1,20 +1,21 @@
 -- Document 01, "The table", with W-205: each rule of the check with records on both sides of its boundary, and which record is named.
 -- Worked out from the document. Assumes nothing.
-use Rattle.std.specs.Prelude.{List, [], ◌∷◌, ◌++◌, ℕ, ◌+◌, replicate}
+use Rattle.std.specs.Prelude.{List, [], ◌∷◌, ◌++◌, ℕ, ◌+◌, replicate, Result, Err, Ok}
 use Rattle.memory.specs.Bytes.{part, replaced}
-use Rattle.table.specs.declared.Verdict.{Verdict}
-use Rattle.table.specs.declared.Verdict.TheVariants.{Accepted, WrongHeader, WrongIpdu, WrongObject}
+use Rattle.table.specs.declared.WrongRecord.{WrongRecord}
 use Rattle.cases.specs.Case.{Case, checks, pair, table_of, send_ipdu, receive_ipdu, ipdu_bytes, send_object, object_bytes}
 use Rattle.cases.specs.Lines.{direct_ipdu, sent_byte, received_byte, internal_receiver}
+use Rattle.table.specs.declared.Counts.{Counts}
+use Rattle.table.specs.declared.WrongRecord.TheVariants.{Header, Ipdu, Object}
 
-abbrev accepted : (ipdus objects : ℕ) → Verdict
-accepted ipdus objects = Accepted (record { ipdus = ipdus; objects = objects })
+abbrev accepted : (ipdus objects : ℕ) → Result Counts WrongRecord
+accepted ipdus objects = Ok (record { ipdus = ipdus; objects = objects })
 
-abbrev ipdu_named : ℕ → Verdict
-ipdu_named k = WrongIpdu (record { 0 = k })
+abbrev ipdu_named : ℕ → Result Counts WrongRecord
+ipdu_named k = Err (Ipdu (record { 0 = k }))
 
-abbrev object_named : ℕ → Verdict
-object_named i = WrongObject (record { 0 = i })
+abbrev object_named : ℕ → Result Counts WrongRecord
+object_named i = Err (Object (record { 0 = i }))
 
 -- a table with one byte set
 abbrev with_byte : (place byte : ℕ) → List ℕ → List ℕ
@@ -31,7 +32,7 @@ abbrev table12 : List ℕ
 table12 = pair (send_ipdu 0 0 0 3 10) (send_object 5 0 0)
 
 abbrev header_byte : (place byte : ℕ) → Case
-header_byte place byte = checks (with_byte place byte table12) WrongHeader
+header_byte place byte = checks (with_byte place byte table12) (Err Header)
 
 abbrev pub header_rules : List Case
 header_rules =
@@ -46,18 +47,18 @@ header_rules =
     -- six zero bytes
     ∷ header_byte 10 1 ∷ header_byte 11 1 ∷ header_byte 12 1 ∷ header_byte 13 1 ∷ header_byte 14 1 ∷ header_byte 15 1
     -- the slice length equals the total, and the total the records'
-    ∷ checks (table12 ++ (0 ∷ [])) WrongHeader
-    ∷ checks (part 0 63 table12) WrongHeader
-    ∷ checks (with_byte 8 65 table12 ++ (0 ∷ [])) WrongHeader
+    ∷ checks (table12 ++ (0 ∷ [])) (Err Header)
+    ∷ checks (part 0 63 table12) (Err Header)
+    ∷ checks (with_byte 8 65 table12 ++ (0 ∷ [])) (Err Header)
     -- fewer than 16 bytes are no header; 16 are enough
-    ∷ checks [] WrongHeader
-    ∷ checks (part 0 15 (table_of [] [])) WrongHeader
+    ∷ checks [] (Err Header)
+    ∷ checks (part 0 15 (table_of [] [])) (Err Header)
     ∷ checks (table_of [] []) (accepted 0 0)
     -- at most 32 I-PDUs and 128 objects (the header is right, object 0 is not)
     ∷ checks (table_of (replicate 32 direct_ipdu) []) (accepted 32 0)
-    ∷ checks (table_of (replicate 33 direct_ipdu) []) WrongHeader
+    ∷ checks (table_of (replicate 33 direct_ipdu) []) (Err Header)
     ∷ checks (table_of [] (replicate 128 kind3)) (object_named 0)
-    ∷ checks (table_of [] (replicate 129 kind3)) WrongHeader
+    ∷ checks (table_of [] (replicate 129 kind3)) (Err Header)
     ∷ []
 
 -- ---- I-PDU records
@@ -181,7 +182,7 @@ filter_constant_rules =
 -- ---- several objects
 
 -- objects over a send I-PDU
-abbrev objects_give : List (List ℕ) → Verdict → Case
+abbrev objects_give : List (List ℕ) → Result Counts WrongRecord → Case
 objects_give objects verdict = checks (table_of (direct_ipdu ∷ []) objects) verdict
 
 -- unqueued or queued, with neither I-PDU nor sending object
@@ -222,7 +223,7 @@ table_rules =
     ∷ checks (table_of [] (replicate 32 (queue_of 16))) (accepted 0 32)
     ∷ checks (table_of [] (replicate 32 (queue_of 16) ++ (queue_of 0 ∷ queue_of 1 ∷ []))) (object_named 33)
     -- the first wrong record: the header, else the lowest I-PDU, else the lowest object, whatever is wrong with it
-    ∷ checks (with_byte 15 1 (pair (send_ipdu 0 0 0 0 0) kind3)) WrongHeader
+    ∷ checks (with_byte 15 1 (pair (send_ipdu 0 0 0 0 0) kind3)) (Err Header)
     ∷ checks (table_of (direct_ipdu ∷ send_ipdu 0 0 0 0 0 ∷ send_ipdu 0 0 0 0 0 ∷ []) (kind3 ∷ [])) (ipdu_named 1)
     ∷ objects_give (little 0 8 ∷ kind3 ∷ kind3 ∷ []) (object_named 1)
     ∷ objects_give (little 0 8 ∷ little 7 8 ∷ kind3 ∷ []) (object_named 2)

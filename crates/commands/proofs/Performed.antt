@@ -1,31 +1,28 @@
 -- A command's call: what it does itself, admitted or refused. The laws ask for plain values, so that a search finds them.
 -- Assumes nothing.
-use Rattle.std.proofs.Common.{Bool, true, false, not, ◌&&◌, ◌||◌, List, [], ◌∷◌, ◌++◌, ◌≡◌, refl, sym, ap, ◌∙◌, ℕ, ◌^◌, ◌≤◌, ◌<◌, arith, leb-true}
+use Rattle.std.proofs.Common.{Bool, true, false, not, ◌||◌, List, [], ◌∷◌, ◌++◌, ◌≡◌, refl, sym, ap, ◌∙◌, ℕ, ◌^◌, ◌≤◌, ◌<◌, arith, leb-true, Option, Some, None, Err, Ok}
 use Rattle.std.proofs.Common.{le-leb, eq-eqb, ne_eqb, leb, eqb, length, drop, get_or-take}
 use Rattle.memory.specs.Bytes.{Bytes, number_at}
 use Rattle.memory.specs.Search.{pick}
 use Rattle.memory.specs.Texts.{line_feed, digit_of}
-use Rattle.memory.proofs.Search.{picked}
 use Rattle.memory.proofs.Parts.{number_one}
 use Rattle.memory.proofs.Tests.{and_false}
 use Rattle.table.specs.declared.Counts.{Counts}
 use Rattle.table.specs.declared.ObjectNumber.{ObjectNumber}
-use Rattle.table.specs.declared.Verdict.{Verdict}
-use Rattle.table.specs.declared.Verdict.TheVariants.{Accepted, WrongHeader, WrongIpdu, WrongObject}
 use Rattle.table.specs.Check.{check}
 use Rattle.table.proofs.Accepted.{right_accepted}
 use Rattle.state.specs.Layout.{memory_size, area_size, running_at}
-use Rattle.state.specs.Ranges.{in_range, Ready}
+use Rattle.state.specs.Ranges.{Ready}
 use Rattle.state.proofs.Ready.{ready_in_range}
-use Rattle.calls.specs.declared.Answer.{Answer}
-use Rattle.calls.specs.declared.Answer.TheVariants.{WrongTable, WrongMemory, Stopped}
-use Rattle.calls.specs.Answers.{number_of, value_of, Outcome, outcome}
+use Rattle.calls.specs.Answers.{Answer}
+use Rattle.calls.specs.declared.Refusal.{Refusal}
+use Rattle.calls.specs.declared.Refusal.TheVariants.{WrongId, WrongLength, NoMessage, WrongTable, WrongMemory, Stopped, NotRequested}
+use Rattle.calls.specs.Answers.{number_of, Outcome, outcome}
 use Rattle.calls.specs.Calls.{periodic_in}
 use Rattle.calls.proofs.ReadyKept.{ready_stop, ready_send, ready_initialise, ready_receive, ready_status, ready_marks, ready_clear_marks, ready_periodic}
 use Rattle.calls.proofs.ReadyKept.{ready_indication, ready_confirm, ready_tick}
-use Rattle.layer.specs.declared.Admission.{Admission}
-use Rattle.layer.specs.declared.Admission.TheVariants.{Admitted, Refused}
-use Rattle.layer.specs.Admission.{Admits, working_memory, admission_of, admission, on_working_memory, if_admitted}
+use Rattle.layer.specs.Admission.{Admission}
+use Rattle.layer.specs.Admission.{Admits, working_memory, admission, on_working_memory, if_admitted}
 use Rattle.layer.specs.Step.{start, describe, step}
 use Rattle.layer.proofs.Admitted.{admits_refused, working_exact}
 use Rattle.layer.proofs.ReadyKept.{start_ready, WorkingReady, working_ready, step_ready}
@@ -35,35 +32,8 @@ use Rattle.script.specs.declared.Command.{Command}
 use Rattle.script.specs.declared.Command.TheVariants.{Start, Stop, Send, Initialise, Object, Periodic, Indication, Confirm, Tick}
 use Rattle.report.specs.Printing.{lends, answer_line}
 use Rattle.report.proofs.StatusLines.{status_line, start_line}
-use Rattle.commands.specs.declared.Ground.{Ground}
-use Rattle.commands.specs.declared.Ground.TheVariants.{Known, Unknown}
 use Rattle.script_run.specs.Script.{call_of, settled, effect, own}
 use Rattle.commands.specs.Given.{Checked, Holds, is_start}
-
--- ---- a command that is none of those that an arm names
-
-pub no_start : (command : Command) → (command ≡ Start → ⊥) → false ≡ is_start command
-no_start Start e = absurd (e refl)
-no_start Stop e = refl
-no_start (Send i v) e = refl
-no_start (Initialise i v) e = refl
-no_start (Object ask i) e = refl
-no_start (Periodic on) e = refl
-no_start (Indication k good) e = refl
-no_start (Confirm k good) e = refl
-no_start Tick e = refl
-
-pub no_area : (command : Command) (fits : Bool) → ((i : ObjectNumber) (v : ℕ) → command ≡ Send i v → ⊥) → (command ≡ Tick → ⊥)
-    → true ≡ (not (lends command) || fits)
-no_area Start fits send tick = refl
-no_area Stop fits send tick = refl
-no_area (Send i v) fits send tick = absurd (send i v refl)
-no_area (Initialise i v) fits send tick = refl
-no_area (Object ask i) fits send tick = refl
-no_area (Periodic on) fits send tick = refl
-no_area (Indication k good) fits send tick = refl
-no_area (Confirm k good) fits send tick = refl
-no_area Tick fits send tick = absurd (tick refl)
 
 pub started_not : (command : Command) → command ≡ Start → is_start command ≡ false → ⊥
 started_not command told other = let e : true ≡ false = rw told at other in let z : ◌≡◌ {A = ℕ} 0 1 = cc in omega arith
@@ -147,15 +117,15 @@ running_front : (m : List ℕ) → running_at (working_memory m) ≡ number_at 1
 unfolding running_at
 running_front m = number_one 0 (working_memory m) ∙ get_or-take memory_size m 0 0 (omega arith) ∙ sym (number_one 0 m)
 
-pub holds_known : (t m : List ℕ) (ground : Ground) (c : Counts) → ground ≡ Known c → Holds ground t m → Checked t c m
-holds_known t m ground c told holds = rw told at holds
+pub holds_known : (t m : List ℕ) (checked : Option Counts) (c : Counts) → checked ≡ Some c → Holds checked t m → Checked t c m
+holds_known t m checked c told holds = rw told at holds
 
 module _ (t : List ℕ) (c : Counts) (m : List ℕ) (fits : Bool) (checked : Checked t c m) where
-  pub known_short : fits ≡ false → Admits t m fits (Refused WrongMemory)
+  pub known_short : fits ≡ false → Admits t m fits (Err WrongMemory)
   unfolding admission
   known_short short = admits_refused (rw (checked.accepted, short, and_false (leb memory_size (length m))))
 
-  known_front : fits ≡ true → pick (eqb (number_at 1 0 m) 0) (Refused Stopped) (Admitted c) ≡ admission t m fits
+  known_front : fits ≡ true → pick (eqb (number_at 1 0 m) 0) (Err Stopped) (Ok c) ≡ admission t m fits
   unfolding admission
   known_front fit =
       rw (
@@ -167,10 +137,10 @@ module _ (t : List ℕ) (c : Counts) (m : List ℕ) (fits : Bool) (checked : Che
       )
 
   module _ (byte : ℕ) (read : byte ≡ number_at 1 0 m) (fit : fits ≡ true) where
-    pub known_stopped : byte ≡ 0 → Admits t m fits (Refused Stopped)
+    pub known_stopped : byte ≡ 0 → Admits t m fits (Err Stopped)
     known_stopped off = admits_refused (rw (eq-eqb (number_at 1 0 m) 0 (sym read ∙ off)) at (known_front fit))
 
-    pub known_runs : (byte ≡ 0 → ⊥) → Admits t m fits (Admitted c)
+    pub known_runs : (byte ≡ 0 → ⊥) → Admits t m fits (Ok c)
     known_runs on =
         record {
           same = rw (ne_eqb (number_at 1 0 m) 0 (λ e. on (read ∙ e))) at (known_front fit);
@@ -220,11 +190,11 @@ settled_working false area call m = refl
 
 module _ (t m : List ℕ) (fits : Bool) (command : Command) (bytes area : List ℕ) (x : Admission) (admits : Admits t m fits x)
     (long : fits ≡ long_for command (length area)) (other : is_start command ≡ false) where
-  pub effect_refused : (a : Answer) → x ≡ Refused a → effect t command bytes area m ≡ outcome a m area
+  pub effect_refused : (r : Refusal) → x ≡ Err r → effect t command bytes area m ≡ outcome (Err r) m area
   unfolding effect
-  effect_refused a told = rw (step_of t command bytes area m other, ← long, ← admits.same, told) (settled_refused (lends command) area m a)
+  effect_refused r told = rw (step_of t command bytes area m other, ← long, ← admits.same, told) (settled_refused (lends command) area m (Err r))
 
-  pub effect_admitted : (c : Counts) → x ≡ Admitted c → effect t command bytes area m ≡ on_working_memory (own t c command bytes area) m
+  pub effect_admitted : (c : Counts) → x ≡ Ok c → effect t command bytes area m ≡ on_working_memory (own t c command bytes area) m
   unfolding effect own
   effect_admitted c told =
       rw (step_of t command bytes area m other, ← long, ← admits.same, told)
@@ -251,39 +221,19 @@ fits_area command fits n fit long lent = leb-true area_size n (rw (← fit, long
 
 -- ---- the answer of a refused call
 
--- nothing is shown with it
-abbrev Bare : Answer → Type 0
-Bare a = (value_of a ≡ 0) × ((number_of a ≡ 0 → ⊥) × (number_of a ≡ 3 → ⊥))
+-- its number is neither 0 nor the 3 of a receive
+refused_number : (r : Refusal) → (number_of (Err r) ≡ 0 → ⊥) × (number_of (Err r) ≡ 3 → ⊥)
+refused_number WrongId = (λ e. omega (arith, e), λ e. omega (arith, e))
+refused_number WrongLength = (λ e. omega (arith, e), λ e. omega (arith, e))
+refused_number NoMessage = (λ e. omega (arith, e), λ e. omega (arith, e))
+refused_number WrongTable = (λ e. omega (arith, e), λ e. omega (arith, e))
+refused_number WrongMemory = (λ e. omega (arith, e), λ e. omega (arith, e))
+refused_number Stopped = (λ e. omega (arith, e), λ e. omega (arith, e))
+refused_number NotRequested = (λ e. omega (arith, e), λ e. omega (arith, e))
 
-abbrev BareRefusal : Admission → Type 0
-BareRefusal (Admitted c) = Unit
-BareRefusal (Refused a) = Bare a
-
-bare : (a : Answer) → value_of a ≡ 0 → 4 ≤ number_of a → Bare a
-bare a none high = (none, (λ e. omega arith, λ e. omega arith))
-
-admission_bare : (t m : List ℕ) (fits : Bool) (v : Verdict) → BareRefusal (admission_of v t m fits)
-admission_bare t m fits (Accepted c) =
-    picked BareRefusal (leb memory_size (length m) && fits) _ _
-    (λ long.
-    picked BareRefusal (in_range t c (working_memory m)) _ _
-    (λ in_range_lem. picked BareRefusal (eqb (running_at (working_memory m)) 0) _ _ (λ off. bare Stopped refl (omega arith)) (λ on. tt))
-    (λ out. bare WrongMemory refl (omega arith)))
-    (λ short. bare WrongMemory refl (omega arith))
-admission_bare t m fits WrongHeader = bare WrongTable refl (omega arith)
-admission_bare t m fits (WrongIpdu k) = bare WrongTable refl (omega arith)
-admission_bare t m fits (WrongObject i) = bare WrongTable refl (omega arith)
-
-pub refused_value : (t m : List ℕ) (fits : Bool) (x : Admission) (a : Answer) → Admits t m fits x → x ≡ Refused a
-    → (value_of a ≡ 0) × ((number_of a ≡ 0 → ⊥) × (number_of a ≡ 3 → ⊥))
-unfolding admission
-refused_value t m fits x a admits told = rw (← admits.same, told) at (admission_bare t m fits (check t))
-
-pub refused_line : (t m : List ℕ) (fits : Bool) (x : Admission) (a : Answer) (command : Command) (area : List ℕ) → Admits t m fits x → x ≡ Refused a
-    → answer_line t command a area ≡ digit_of (number_of a) ∷ line_feed ∷ []
-refused_line t m fits x a command area admits told =
-    let none = refused_value t m fits x a admits told in
-    status_line t command a area none.0 none.1.0 none.1.1
+pub refused_line : (t : List ℕ) (r : Refusal) (command : Command) (area : List ℕ)
+    → answer_line t command (Err r) area ≡ digit_of (number_of (Err r)) ∷ line_feed ∷ []
+refused_line t r command area = status_line t command (Err r) area refl (refused_number r).0 (refused_number r).1
 
 pub started_line : (t : List ℕ) (command : Command) (a : Answer) (area : List ℕ) → is_start command ≡ true
     → answer_line t command a area ≡ digit_of (number_of a) ∷ line_feed ∷ []
@@ -292,12 +242,12 @@ started_line t command a area is = rw (start_only command is) (start_line t a ar
 -- ---- table and memory stay right
 
 module _ (t : List ℕ) (c : Counts) (m : List ℕ) where
-  pub admitted_checked : (fits : Bool) (x : Admission) → Admits t m fits x → x ≡ Admitted c → Checked t c m
+  pub admitted_checked : (fits : Bool) (x : Admission) → Admits t m fits x → x ≡ Ok c → Checked t c m
   admitted_checked fits x admits told =
       let opened = admits.opens c told in
       record { accepted = right_accepted t c opened.ready.right; long = opened.long; ready = opened.ready }
 
-  kept_checked : (n : List ℕ) → check t ≡ Accepted c → WorkingReady t c n → Checked t c n
+  kept_checked : (n : List ℕ) → check t ≡ Ok c → WorkingReady t c n → Checked t c n
   kept_checked n accepted w = record { accepted = accepted; long = w.long; ready = w.ready }
 
   pub checked_after : (x : List ℕ) → Checked t c m → Ready t c x → Checked t c (x ++ drop memory_size m)
@@ -309,6 +259,6 @@ module _ (t : List ℕ) (c : Counts) (m : List ℕ) where
       (step_ready t c checked.accepted start m (record { long = checked.long; ready = checked.ready })
       (λ i v e. let z : ◌≡◌ {A = ℕ} 0 1 = cc in omega arith) (λ i v e. let z : ◌≡◌ {A = ℕ} 0 1 = cc in omega arith) (λ i. omega arith))
 
-pub start_holds : (t m : List ℕ) (ground : Ground) → Holds ground t m → Holds ground t (step t start m).memory
-start_holds t m (Known c) holds = start_checked t c m holds
-start_holds t m Unknown holds = tt
+pub start_holds : (t m : List ℕ) (checked : Option Counts) → Holds checked t m → Holds checked t (step t start m).memory
+start_holds t m (Some c) holds = start_checked t c m holds
+start_holds t m None holds = tt

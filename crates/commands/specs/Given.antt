@@ -1,9 +1,8 @@
 -- A command over table, memory and area: what is known of them, so that they need not be checked again, and what the call gave.
 -- Assumes nothing.
-use Rattle.std.specs.Prelude.{Bool, true, false, List, ◌≡◌, ℕ, ◌≤◌, length}
+use Rattle.std.specs.Prelude.{Bool, true, false, List, ◌≡◌, ℕ, ◌≤◌, length, Option, Some, None, Ok}
 use Rattle.memory.specs.Texts.{Put}
 use Rattle.table.specs.declared.Counts.{Counts}
-use Rattle.table.specs.declared.Verdict.TheVariants.{Accepted}
 use Rattle.table.specs.Check.{check}
 use Rattle.state.specs.Layout.{memory_size}
 use Rattle.state.specs.Ranges.{Ready}
@@ -12,20 +11,18 @@ use Rattle.layer.specs.Admission.{working_memory, on_working_memory}
 use Rattle.script.specs.declared.Command.{Command}
 use Rattle.script.specs.declared.Command.TheVariants.{Start, Stop, Send, Initialise, Object, Periodic, Indication, Confirm, Tick}
 use Rattle.report.specs.Printing.{answer_line}
-use Rattle.commands.specs.declared.Ground.{Ground}
-use Rattle.commands.specs.declared.Ground.TheVariants.{Known, Unknown}
 use Rattle.script_run.specs.Script.{effect, own}
 
 -- ---- what is known of table and memory, so that they need not be checked again
 
 pub record Checked (t : List ℕ) (c : Counts) (m : List ℕ) : Type 0 where
-  pub accepted : check t ≡ Accepted c
+  pub accepted : check t ≡ Ok c
   pub long : memory_size ≤ length m
   pub ready : Ready t c (working_memory m)
 
-abbrev pub Holds : Ground → List ℕ → List ℕ → Type 0
-Holds (Known c) t m = Checked t c m
-Holds Unknown t m = Unit
+abbrev pub Holds : Option Counts → List ℕ → List ℕ → Type 0
+Holds (Some c) t m = Checked t c m
+Holds None t m = Unit
 
 -- the one command whose call does not ask that the layer runs
 abbrev pub is_start : Command → Bool

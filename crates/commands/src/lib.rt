@@ -9,16 +9,10 @@ pub use examining::examine;
 pub use performing::perform;
 use table::Counts;
 
-// Whether table and memory were found right.
-#[derive(Clone, Copy)]
-pub enum Ground {
-    Known(Counts),
-    Unknown,
-}
-
-// What a command came to: what is now known, and the place behind the line that it printed.
+// What a command came to: the table's counts where table and memory are known to be right, and the place behind the line that it
+// printed.
 #[derive(Clone, Copy)]
 pub struct Made {
-    pub ground: Ground,
-    pub end: usize,
+    pub checked: Option<Counts>,
+    pub line_end: usize,
 }

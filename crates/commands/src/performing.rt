@@ -11,9 +11,8 @@ ghost use Rattle.report.specs.Printing.{lends, longest_line};
 ghost use Rattle.script_run.specs.Script.{call_of, own};
 ghost use Rattle.commands.specs.Given.{Checked, Holds, is_start, EffectGave, OwnGave};
 
-use super::{Ground, Made};
-use calls::Answer;
-use layer::Admission;
+use super::Made;
+use calls::{Answer, Refusal};
 use script::{Ask, Command};
 use state::{AREA_SIZE, MEMORY_SIZE, RUNNING};
 use table::{Counts, ObjectNumber};
@@ -26,31 +25,30 @@ pub fn perform(
     bytes: &[u8],
     out: &mut [u8],
     at: usize,
-    ground: Ground,
+    checked: Option<Counts>,
     command: Command,
 ) -> Made
-    requires holds { Holds ground t.now m.old }
+    requires holds { Holds checked t.now m.old }
     requires longest_line_in_bounds { at + longest_line ≤ length out.old }
-    ensures effect_gave { EffectGave t.now command bytes.now m.old area.old at out.old m.new area.new out.new result.end }
-    ensures end_bound { result.end ≤ at + longest_line }
-    ensures holds_2 { Holds result.ground t.now m.new }
+    ensures effect_gave { EffectGave t.now command bytes.now m.old area.old at out.old m.new area.new out.new result.line_end }
+    ensures end_bound { result.line_end ≤ at + longest_line }
+    ensures still_holds { Holds result.checked t.now m.new }
 {
     if is_start(command) {
         let answer = layer::start(t, m);
         return Made {
-            ground: ground,
-            end: report::put_status(out, at, answer),
+            checked,
+            line_end: report::put_status(out, at, answer),
         };
     }
-    let admission = admit(t, m, fits(command, area), ground);
-    match admission {
-        Admission::Refused(answer) => Made {
-            ground: ground,
-            end: report::put_status(out, at, answer),
+    match admit(t, m, fits(command, area), checked) {
+        Err(refusal) => Made {
+            checked,
+            line_end: report::put_status(out, at, Err(refusal)),
         },
-        Admission::Admitted(c) => Made {
-            ground: Ground::Known(c),
-            end: perform_admitted(t, c, m, area, bytes, out, at, command),
+        Ok(c) => Made {
+            checked: Some(c),
+            line_end: perform_admitted(t, c, m, area, bytes, out, at, command),
         },
     }
 }
@@ -72,55 +70,48 @@ fn perform_admitted(
     requires longest_line_in_bounds { at + longest_line ≤ length out.old }
     ensures own_gave { OwnGave t.now c command bytes.now m.old area.old at out.old m.new area.new out.new result }
     ensures upper_bound { result ≤ at + longest_line }
-    ensures checked_2 { Checked t.now c m.new }
+    ensures still_checked { Checked t.now c m.new }
 {
     let answer = call(t, c, &mut m[..MEMORY_SIZE], area, bytes, command);
     report::put_answer(t, c, area, out, at, command, answer)
 }
 
 // Whether the command goes on, or is refused before it looks at its own numbers.
-fn admit(t: &[u8], m: &[u8], fits: bool, ground: Ground) -> Admission
-    requires { Holds ground t.now m.now }
+fn admit(t: &[u8], m: &[u8], fits: bool, checked: Option<Counts>) -> Result<Counts, Refusal>
+    requires { Holds checked t.now m.now }
     ensures { Admits t.now m.now fits result }
 {
-    match ground {
-        Ground::Known(c) => admit_known(t, c, m, fits),
-        Ground::Unknown => layer::admit(t, m, fits),
+    match checked {
+        Some(c) => admit_known(t, c, m, fits),
+        None => layer::admit(t, m, fits),
     }
 }
 
 // Table and memory were found right: what is left is the length of the area, and whether the layer runs.
-fn admit_known(t: &[u8], c: Counts, m: &[u8], fits: bool) -> Admission
+fn admit_known(t: &[u8], c: Counts, m: &[u8], fits: bool) -> Result<Counts, Refusal>
     requires { Checked t.now c m.now }
     ensures { Admits t.now m.now fits result }
 {
     if !fits {
-        return Admission::Refused(Answer::WrongMemory);
+        return Err(Refusal::WrongMemory);
     }
     if memory::read8(m, RUNNING) == 0 {
-        return Admission::Refused(Answer::Stopped);
+        return Err(Refusal::Stopped);
     }
-    Admission::Admitted(c)
+    Ok(c)
 }
 
 // Whether the request area is long enough for the command.
 fn fits(command: Command, area: &[u8]) -> bool
     ensures { result ≡ (not (lends command) || leb area_size (length area.now)) }
 {
-    match command {
-        Command::Send(_, _) => AREA_SIZE <= area.len(),
-        Command::Tick => AREA_SIZE <= area.len(),
-        _ => true,
-    }
+    !matches!(command, Command::Send(_, _) | Command::Tick) || AREA_SIZE <= area.len()
 }
 
 fn is_start(command: Command) -> bool
     ensures { result ≡ is_start command }
 {
-    match command {
-        Command::Start => true,
-        _ => false,
-    }
+    matches!(command, Command::Start)
 }
 
 // What the command's call does itself. A start is made elsewhere.
@@ -136,10 +127,10 @@ fn call(
     requires area_size_in_bounds { lends command ≡ true → area_size ≤ length area.old }
     requires command_value { is_start command ≡ false }
     ensures area_after { outcome result m.new area.new ≡ own t.now c command bytes.now area.old m.old }
-    ensures ready_2 { Ready t.now c m.new }
+    ensures still_ready { Ready t.now c m.new }
 {
     match command {
-        Command::Start => Answer::Stopped,
+        Command::Start => Err(Refusal::Stopped),
         Command::Stop => ipdu_calls::stop(m),
         Command::Send(i, v) => object_calls::send(t, c, m, area, i, v),
         Command::Initialise(i, v) => object_calls::initialise(t, c, m, i, v),

@@ -1,6 +1,6 @@
 -- What a record of a right table means: document 01's fields as structs; the length of an I-PDU, and whether an object is signed (W-207).
 -- Assumes nothing.
-use Rattle.std.specs.Prelude.{Bool, ◌&&◌, List, ℕ, ltb, eqb}
+use Rattle.std.specs.Prelude.{Bool, ◌&&◌, List, Result, Ok, Err, ℕ, ltb, eqb}
 use Rattle.memory.specs.Search.{pick}
 use Rattle.bits.specs.Slots.{position}
 use Rattle.config.specs.declared.Direction.{Direction}
@@ -13,8 +13,7 @@ use Rattle.config.specs.declared.Ipdu.{Ipdu}
 use Rattle.config.specs.declared.Object.{Object}
 use Rattle.table.specs.declared.IpduRecord.{IpduRecord}
 use Rattle.table.specs.declared.ObjectRecord.{ObjectRecord}
-use Rattle.table.specs.declared.Verdict.{Verdict}
-use Rattle.table.specs.declared.Verdict.TheVariants.{Accepted, WrongHeader, WrongIpdu, WrongObject}
+use Rattle.table.specs.declared.WrongRecord.{WrongRecord}
 use Rattle.table.specs.declared.Counts.{Counts}
 use Rattle.table.specs.Records.{ipdu_record, object_record}
 use Rattle.table.specs.Rules.{order_of, signed_of, record_filter}
@@ -63,11 +62,9 @@ object_of r =
     }
 
 -- the length of an I-PDU in bytes, 1 to 8; 0 where the table is wrong or has no such I-PDU
-abbrev pub length_by : Verdict → List ℕ → ℕ → ℕ
-length_by (Accepted c) t k = pick (ltb k c.ipdus) (ipdu_record t k).length 0
-length_by WrongHeader t k = 0
-length_by (WrongIpdu j) t k = 0
-length_by (WrongObject i) t k = 0
+abbrev pub length_by : Result Counts WrongRecord → List ℕ → ℕ → ℕ
+length_by (Ok c) t k = pick (ltb k c.ipdus) (ipdu_record t k).length 0
+length_by (Err wrong) t k = 0
 
 unfoldable pub ipdu_length : List ℕ → ℕ → ℕ
 ipdu_length t k = length_by (check t) t k

@@ -1,13 +1,12 @@
 // Records of an accepted table as structs that hold what they mean.
-ghost use Rattle.std.specs.Prelude.{◌≡◌, ◌+◌, ◌*◌, ◌≤◌, ◌<◌, length};
+ghost use Rattle.std.specs.Prelude.{◌≡◌, ◌+◌, ◌*◌, ◌≤◌, ◌<◌, length, MatchOption};
 ghost use Rattle.table.specs.Records.{object_base, ipdu_record, object_record};
-ghost use Rattle.table.specs.declared.Verdict.TheVariants.{Accepted};
 ghost use Rattle.table.specs.Check.{Shape};
-ghost use Rattle.config.specs.Decode.{direction_of, mode_of, transfer_of, ipdu_of, object_of, length_by, ipdu_length, is_signed};
+ghost use Rattle.config.specs.Decode.{direction_of, mode_of, transfer_of, ipdu_of, object_of, ipdu_length, is_signed};
 
 use super::{Direction, Ipdu, Mode, Object, Transfer};
 use bits::{BitSize, ByteLength};
-use table::{Counts, IpduNumber, IpduRecord, ObjectNumber, ObjectRecord, Verdict};
+use table::{Counts, IpduNumber, IpduRecord, ObjectNumber, ObjectRecord};
 
 // An I-PDU of the table.
 pub fn decode_ipdu(t: &[u8], number: IpduNumber) -> Ipdu
@@ -26,46 +25,29 @@ pub fn decode_object(t: &[u8], ipdus: u32, number: ObjectNumber) -> Object
     object_of(table::object_record(t, ipdus, number))
 }
 
-// The length of an I-PDU for a caller that has nothing but the table: 0 where that is wrong or has no such I-PDU.
-pub fn ipdu_length(t: &[u8], number: IpduNumber) -> ByteLength
-    ensures { result.0 ≡ ipdu_length t.now number.0 }
+// The length of an I-PDU for a caller that has nothing but the table: none where that is wrong or has no such I-PDU.
+pub fn ipdu_length(t: &[u8], number: IpduNumber) -> Option<ByteLength>
+    ensures { MatchOption result (ipdu_length t.now number.0 ≡ 0) (λ length. (length.0 ≡ ipdu_length t.now number.0) × (1 ≤ length.0)) }
 {
-    let verdict = table::check(t);
-    match verdict {
-        Verdict::Accepted(c) => length_in(t, c, number),
-        Verdict::WrongHeader => ByteLength(0),
-        Verdict::WrongIpdu(_) => ByteLength(0),
-        Verdict::WrongObject(_) => ByteLength(0),
+    let c = table::check(t).ok()?;
+    if c.ipdus <= number.0 {
+        return None;
     }
-}
-
-fn length_in(t: &[u8], c: Counts, number: IpduNumber) -> ByteLength
-    requires { Shape t.now c }
-    ensures { result.0 ≡ length_by (Accepted c) t.now number.0 }
-{
-    let n = c.ipdus;
-    let k = number.0;
-    if k < n {
-        let r = table::ipdu_record(t, number);
-        return ByteLength(r.length);
-    }
-    ByteLength(0)
+    let r = table::ipdu_record(t, number);
+    Some(ByteLength(r.length))
 }
 
 // Whether there is an object of this number, and it is signed.
+#[tactic(auto, unfolding(crate::specs::Decode::is_signed))]
 pub fn is_signed(t: &[u8], c: Counts, number: ObjectNumber) -> bool
     requires { Shape t.now c }
     ensures { result ≡ is_signed t.now c number.0 }
 {
-    let n = c.objects;
-    let i = number.0;
-    if n <= i {
-        return false;
-    }
-    let r = table::object_record(t, c.ipdus, number);
-    2 <= r.order
+    number.0 < c.objects && 2 <= table::object_record(t, c.ipdus, number).order
 }
 
+// No `From`: an object's takes a `requires`, which a `From` cannot, and the I-PDU's is its like.
+#[tactic(auto, unfolding(crate::specs::Decode::ipdu_of))]
 fn ipdu_of(r: IpduRecord) -> Ipdu
     ensures { result ≡ ipdu_of r }
 {
@@ -81,6 +63,7 @@ fn ipdu_of(r: IpduRecord) -> Ipdu
     }
 }
 
+#[tactic(auto, unfolding(crate::specs::Decode::object_of))]
 fn object_of(r: ObjectRecord) -> Object
     requires { r.start < 64 }
     ensures { result ≡ object_of r }
@@ -90,7 +73,7 @@ fn object_of(r: ObjectRecord) -> Object
         direction: direction_of(r.kind),
         ipdu: IpduNumber(r.ipdu),
         sender: ObjectNumber(r.sender),
-        order: order,
+        order,
         signed: 2 <= r.order,
         at: bits::position(order, r.start),
         size: BitSize(r.size),
@@ -101,6 +84,7 @@ fn object_of(r: ObjectRecord) -> Object
     }
 }
 
+// The numbers of these three are those of a checked record: a `TryFrom` would have an error that never comes.
 fn direction_of(n: u32) -> Direction
     ensures { result ≡ direction_of n }
 {
@@ -114,10 +98,11 @@ fn direction_of(n: u32) -> Direction
 fn mode_of(n: u32) -> Mode
     ensures { result ≡ mode_of n }
 {
-    if n == 0 {
-        return Mode::Direct;
+    match n {
+        0 => Mode::Direct,
+        1 => Mode::Periodic,
+        _ => Mode::Mixed,
     }
-    if n == 1 { Mode::Periodic } else { Mode::Mixed }
 }
 
 fn transfer_of(n: u32) -> Transfer

@@ -7,14 +7,14 @@ mod decode;
 pub use decode::{decode_ipdu, decode_object, ipdu_length, is_signed};
 
 // Whether an I-PDU or an object is sent or received.
-#[derive(Clone, Copy)]
+#[derive(Clone, Copy, PartialEq, Eq)]
 pub enum Direction {
     Send,
     Receive,
 }
 
 // The transmission mode of a send I-PDU.
-#[derive(Clone, Copy)]
+#[derive(Clone, Copy, PartialEq, Eq)]
 pub enum Mode {
     Direct,
     Periodic,
@@ -22,7 +22,7 @@ pub enum Mode {
 }
 
 // The transfer property of a send object.
-#[derive(Clone, Copy)]
+#[derive(Clone, Copy, PartialEq, Eq)]
 pub enum Transfer {
     Triggered,
     Pending,

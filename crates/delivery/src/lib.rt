@@ -1,4 +1,5 @@
-// Delivery to the objects with a sending object or an I-PDU, and marks on the objects of an I-PDU, by rising number.
+// Delivery to the objects with a sending object or an I-PDU, and marks on the objects of an I-PDU, by rising number. Each walk has a turn of its own: they differ in
+// the field that they look at and in what they ask for. One walk with a closure would say both again at each call, and is no plainer.
 #![tactic(auto)]
 
 mod due;
@@ -11,18 +12,17 @@ ghost use Rattle.message.specs.Objects.{object, deliver};
 ghost use Rattle.delivery.specs.Delivery.{inside_turn, deliver_inside, frame_turn, deliver_frame, mark_turn, mark_objects};
 
 pub use due::mark_due;
+use state::ObjectState;
 use table::{Counts, IpduNumber, ObjectNumber};
 
 // Delivers a whole value to the receive objects of a sending object.
+#[tactic(auto, using(memory::proofs::Search::turn_more, crate::proofs::Turns::inside_ready), unfolding(crate::specs::Delivery::deliver_inside),)]
 pub fn deliver_inside(t: &[u8], c: Counts, m: &mut [u8], sender: ObjectNumber, v: u32)
     requires { Ready t.now c m.old }
     ensures { m.new ≡ deliver_inside t.now c sender.0 v m.old }
 {
-    let n = c.objects;
-    let mut i = 0;
-    while i < n {
+    for i in 0..c.objects {
         inside_turn(t, c, m, sender, v, ObjectNumber(i));
-        i += 1;
     }
 }
 
@@ -56,16 +56,14 @@ fn deliver_to(t: &[u8], c: Counts, m: &mut [u8], number: ObjectNumber, v: u32)
 }
 
 // Delivers to each object of an I-PDU its bits of it.
+#[tactic(auto, using(memory::proofs::Search::turn_more, crate::proofs::Turns::frame_ready), unfolding(crate::specs::Delivery::deliver_frame),)]
 pub fn deliver_frame(t: &[u8], c: Counts, m: &mut [u8], ipdu: IpduNumber)
     requires ready { Ready t.now c m.old }
     requires ipdu_lt_ipdus { ipdu.0 < c.ipdus }
     ensures { m.new ≡ deliver_frame t.now c ipdu.0 m.old }
 {
-    let n = c.objects;
-    let mut i = 0;
-    while i < n {
+    for i in 0..c.objects {
         frame_turn(t, c, m, ipdu, ObjectNumber(i));
-        i += 1;
     }
 }
 
@@ -85,20 +83,19 @@ fn frame_turn(t: &[u8], c: Counts, m: &mut [u8], ipdu: IpduNumber, number: Objec
 }
 
 // Marks each object of an I-PDU.
+#[tactic(auto, using(memory::proofs::Search::turn_more), unfolding(crate::specs::Delivery::mark_objects))]
 pub fn mark_objects(t: &[u8], c: Counts, m: &mut [u8], ipdu: IpduNumber, mark: u32)
     requires shape { Shape t.now c }
     requires memory_size_in_bounds { memory_size ≤ length m.old }
     ensures { m.new ≡ mark_objects t.now c ipdu.0 mark m.old }
 {
-    let n = c.objects;
-    let mut i = 0;
-    while i < n {
+    for i in 0..c.objects {
         mark_turn(t, c, m, ipdu, mark, ObjectNumber(i));
-        i += 1;
     }
 }
 
 // Marks one object, where that is in the I-PDU.
+#[tactic(auto, unfolding(message::specs::Objects::marked))]
 fn mark_turn(t: &[u8], c: Counts, m: &mut [u8], ipdu: IpduNumber, mark: u32, number: ObjectNumber)
     requires shape { Shape t.now c }
     requires memory_size_in_bounds { (memory_size ≤ length m.old) × (number.0 < c.objects) }
@@ -108,7 +105,10 @@ fn mark_turn(t: &[u8], c: Counts, m: &mut [u8], ipdu: IpduNumber, mark: u32, num
     if r.ipdu != ipdu.0 {
         return;
     }
-    let mut s = state::object_state(m, number);
-    s.marks = s.marks | mark;
-    state::set_object_state(m, number, s);
+    let s = state::object_state(m, number);
+    let next = ObjectState {
+        marks: s.marks | mark,
+        ..s
+    };
+    state::set_object_state(m, number, next);
 }

@@ -42,8 +42,5 @@ fn argument_count(env: &impl Env) -> usize {
 }
 
 fn has_argument(env: &impl Env, i: usize) -> bool {
-    match env.arg(i, &mut []) {
-        Ok(_) | Err(FillError::TooLong) => true,
-        Err(FillError::NotPresent) => false,
-    }
+    !matches!(env.arg(i, &mut []), Err(FillError::NotPresent))
 }

@@ -1,56 +1,85 @@
 -- The end of a line: its call is made and printed, or it can't be read. What the functions that end a line cite. Assumes nothing.
-use Rattle.std.proofs.Common.{true, false, List, ◌++◌, ◌≡◌, sym, ap, ◌∙◌, subst, ℕ, ◌+◌, ◌≤◌, arith, length, take, drop}
-use lib.Seq.{sets, sets-eq, take-append_seam}
+use Rattle.std.proofs.Common.{[], ◌∷◌, refl, ap₂, ◌-◌, ◌/◌, ◌%◌, ◌^◌, ◌<◌, zero, suc, w64, min, ⊎_elim, lt-ltb, le-ltb}
+use Rattle.std.proofs.Common.{true, false, List, ◌++◌, ◌≡◌, sym, ◌∙◌, ℕ, ◌+◌, ◌≤◌, arith, length, take, drop, Option, Some, None}
+use Rattle.std.specs.Int.{to_be_bytes}
+use Rattle.std.proofs.lemmas.List.{drop-append-le, drop_all, take_all}
 use Rattle.memory.specs.Texts.{Put}
+use Rattle.memory.proofs.Tests.{lt_or_le}
 use Rattle.script.specs.declared.Command.{Command}
 use Rattle.script.specs.declared.Frame.{Frame}
 use Rattle.script.specs.declared.Reader.{Reader}
-use Rattle.script.specs.declared.Reading.{Reading}
-use Rattle.script.specs.declared.Reading.TheVariants.{Readable, Unreadable}
 use Rattle.script.specs.Reader.{fresh, command_of, frame_of, bytes_down, frame_bytes}
 use Rattle.script.proofs.BytesDown.{down_length}
 use Rattle.report.specs.Printing.{refusal_line, longest_line}
 use Rattle.report.proofs.StatusLines.{refusal_length}
-use Rattle.commands.specs.declared.Ground.{Ground}
 use Rattle.script.specs.declared.Progress.{Progress}
 use Rattle.script_run.specs.Script.{effect}
 use Rattle.script_run.specs.Parts.{next_line, line_ended, progress_as}
 use Rattle.commands.specs.Given.{Holds, Gave}
 use Rattle.driver.specs.Turns.{run_as, LineRun}
+use Rattle.table.specs.declared.Counts.{Counts}
 
--- ---- the bytes of an indication, spelt at the start of a buffer
+-- ---- the bytes of an indication are the last of nine
 
-module _ (k x : ℕ) (before : List ℕ) {after : List ℕ} (stored : after ≡ sets before 0 (bytes_down k x)) (room : k ≤ length before) where
-  spelt : take k after ≡ bytes_down k x
-  spelt =
-      let down = bytes_down k x in
-      let all : after ≡ down ++ drop (0 + length down) before = stored ∙ sets-eq down before 0 (omega (arith, down_length k x, room)) in
-      let rest : List ℕ = drop (0 + length down) before in
-      ap (take k) all ∙ subst (λ (n : ℕ). take n (down ++ rest) ≡ down) (down_length k x) (take-append_seam down rest)
+-- the last bytes are those of the low part
+low_bytes : (j k x : ℕ) → drop j (bytes_down (k + j) x) ≡ bytes_down k x
+unfolding bytes_down
+low_bytes j zero x = let none : length (bytes_down j x) ≤ j = omega (arith, down_length j x) in
+    let all : 0 + j ≡ j = omega arith in
+    rw all (drop_all j (bytes_down j x) none)
+low_bytes j (suc k) x =
+    let inside : j ≤ length (bytes_down (k + j) (x / 256)) = omega (arith, down_length (k + j) (x / 256)) in
+    let more : suc k + j ≡ suc (k + j) = omega arith in
+    rw (more, drop-append-le j (bytes_down (k + j) (x / 256)) (x % 256 ∷ []) inside, low_bytes j k (x / 256))
 
-  pub spelt_count : k ≡ length (take k after)
-  spelt_count = sym (ap length spelt ∙ down_length k x)
+-- the bytes of a number, the highest first, behind one more
+pub spelt_bytes : (x : ℕ) → x < 2 ^ 64 → 0 ∷ (to_be_bytes w64 x ++ []) ≡ bytes_down 9 x
+unfolding bytes_down
+spelt_bytes x low =
+    let top : 0 ≡ x / 256 / 256 / 256 / 256 / 256 / 256 / 256 / 256 % 256 = omega (arith, low) in
+    let byte_7 : x / 256 ^ 7 % 256 ≡ x / 256 / 256 / 256 / 256 / 256 / 256 / 256 % 256 = omega arith in
+    let byte_6 : x / 256 ^ 6 % 256 ≡ x / 256 / 256 / 256 / 256 / 256 / 256 % 256 = omega arith in
+    let byte_5 : x / 256 ^ 5 % 256 ≡ x / 256 / 256 / 256 / 256 / 256 % 256 = omega arith in
+    let byte_4 : x / 256 ^ 4 % 256 ≡ x / 256 / 256 / 256 / 256 % 256 = omega arith in
+    let byte_3 : x / 256 ^ 3 % 256 ≡ x / 256 / 256 / 256 % 256 = omega arith in
+    let byte_2 : x / 256 ^ 2 % 256 ≡ x / 256 / 256 % 256 = omega arith in
+    let byte_1 : x / 256 ^ 1 % 256 ≡ x / 256 % 256 = omega arith in
+    ap₂ ◌∷◌ top (ap₂ ◌∷◌ byte_7 (ap₂ ◌∷◌ byte_6 (ap₂ ◌∷◌ byte_5 (ap₂ ◌∷◌ byte_4 (ap₂ ◌∷◌ byte_3 (ap₂ ◌∷◌ byte_2 (ap₂ ◌∷◌ byte_1 (refl))))))))
 
-pub spelt_gave : (frame : Frame) (area m before : List ℕ) {t : List ℕ} {command : Command} {at end : ℕ} {after out m' area' out' : List ℕ}
-    → after ≡ sets before 0 (bytes_down frame.length frame.value) → frame.length ≤ length before
-    → Gave t command (effect t command (take frame.length after) area m) at out m' area' out' end
-    → Gave t command (effect t command (frame_bytes frame) area m) at out m' area' out' end
+pub frame_last : (frame : Frame) → frame.length ≤ 9 → take (9 - (9 - frame.length)) (drop (9 - frame.length) (bytes_down 9 frame.value)) ≡ frame_bytes frame
 unfolding frame_bytes
-spelt_gave frame area m before {t} {command} {at} {end} {after} {out} {m'} {area'} {out'} stored room gave =
-    subst (λ (bytes : List ℕ). Gave t command (effect t command bytes area m) at out m' area' out' end) (spelt frame.length frame.value before stored room) gave
+frame_last frame small =
+    let all : frame.length + (9 - frame.length) ≡ 9 = omega (arith, small) in
+    let low : drop (9 - frame.length) (bytes_down 9 frame.value) ≡ bytes_down frame.length frame.value =
+    rw all at (low_bytes (9 - frame.length) frame.length frame.value) in
+    rw low (take_all (9 - (9 - frame.length)) (bytes_down frame.length frame.value) (omega (arith, down_length frame.length frame.value, small)))
+
+pub spelt_gave : (frame : Frame) → frame.length ≤ 9 → (area m bytes : List ℕ) {t : List ℕ} {command : Command} {at end : ℕ} {out m' area' out' : List ℕ}
+    → bytes ≡ bytes_down 9 frame.value → Gave t command (effect t command (take (9 - (9 - frame.length)) (drop (9 - frame.length) bytes)) area m) at out m' area' out' end
+    → Gave t command (effect t command (frame_bytes frame) area m) at out m' area' out' end
+spelt_gave frame small area m bytes same gave = rw (← frame_last frame small, ← same) gave
 
 -- ---- the line feed of a line that can be read, and of one that can't
 
-module _ (t : List ℕ) (p : Progress) (m area out : List ℕ) (at : ℕ) {reading : Reading} (reads : reading ≡ command_of p.reader) where
-  pub line_answered : {command : Command} → reading ≡ Readable command → {frame : Frame} → frame ≡ frame_of p.reader
+-- the number of a line has 64 bits
+line_number : (n : ℕ) → n < 2 ^ 64 → min (n + 1) (2 ^ 64 - 1) ≡ next_line n
+line_number n low =
+    ⊎_elim
+    (λ (below : n < 2 ^ 64 - 1). rw (lt-ltb n (2 ^ 64 - 1) below) (omega arith))
+    (λ (most : 2 ^ 64 - 1 ≤ n). rw (le-ltb n (2 ^ 64 - 1) most) (omega (arith, low, most)))
+    (lt_or_le n (2 ^ 64 - 1))
+
+module _ (t : List ℕ) (p : Progress) (m area out : List ℕ) (at : ℕ) {reading : Option Command} (reads : reading ≡ command_of p.reader) where
+  pub line_answered : {command : Command} → reading ≡ Some command → {frame : Frame} → frame ≡ frame_of p.reader
       → {m' area' out' : List ℕ} {end : ℕ} → Gave t command (effect t command (frame_bytes frame) area m) at out m' area' out' end
-      → end ≤ at + longest_line → {ground : Ground} → Holds ground t m' → {f : Reader} → f ≡ fresh → {n : ℕ} → n ≡ next_line p.line
-      → LineRun t p m area out m' area' out' at (run_as (progress_as f n false) ground end)
+      → end ≤ at + longest_line → {checked : Option Counts} → Holds checked t m' → {f : Reader} → f ≡ fresh → {n : ℕ} → n ≡ min (p.line + 1) (2 ^ 64 - 1) → p.line < 2 ^ 64
+      → LineRun t p m area out m' area' out' at (run_as (progress_as f n false) checked end)
   unfolding line_ended
-  line_answered {command} is {frame} framed {m'} {area'} {out'} {end} gave room {ground} known {f} is-fresh {n} numbered =
-      let command_is : command_of p.reader ≡ Readable command = sym reads ∙ is in
+  line_answered {command} is {frame} framed {m'} {area'} {out'} {end} gave room {checked} known {f} is-fresh {n} numbered low =
+      let next : n ≡ next_line p.line = numbered ∙ line_number p.line low in
+      let command_is : command_of p.reader ≡ Some command = sym reads ∙ is in
       record {
-        kept = rw (command_is, is-fresh, numbered);
+        kept = rw (command_is, is-fresh, next);
         memory = rw (command_is, ← framed) gave.memory;
         lent = rw (command_is, ← framed) gave.lent;
         line = rw (command_is, ← framed) gave.line;
@@ -58,12 +87,12 @@ module _ (t : List ℕ) (p : Progress) (m area out : List ℕ) (at : ℕ) {readi
         known = known;
       }
 
-  pub line_refused : reading ≡ Unreadable → {out' : List ℕ} {end : ℕ} → Put at (refusal_line p.line) out out' end
-      → {ground : Ground} → Holds ground t m → {f : Reader} → f ≡ fresh
-      → LineRun t p m area out m area out' at (run_as (progress_as f p.line true) ground end)
+  pub line_refused : reading ≡ None → {out' : List ℕ} {end : ℕ} → Put at (refusal_line p.line) out out' end
+      → {checked : Option Counts} → Holds checked t m → {f : Reader} → f ≡ fresh
+      → LineRun t p m area out m area out' at (run_as (progress_as f p.line true) checked end)
   unfolding line_ended
-  line_refused is {out'} {end} put {ground} known {f} is-fresh =
-      let none : command_of p.reader ≡ Unreadable = sym reads ∙ is in
+  line_refused is {out'} {end} put {checked} known {f} is-fresh =
+      let none : command_of p.reader ≡ None = sym reads ∙ is in
       record {
         kept = rw (none, is-fresh);
         memory = rw none;

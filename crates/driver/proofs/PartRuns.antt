@@ -1,6 +1,6 @@
 -- A part that is run line by line: what holds between two lines (`SoFar`), that each line keeps it, and that it ends in `Ran`.
 -- Assumes nothing.
-use Rattle.std.proofs.Common.{Bool, true, false, not, ◌&&◌, List, ◌⊎◌, inl, inr, ⊎_elim, ◌≡◌, refl, sym, ap, ◌∙◌, subst, ℕ, suc, ◌+◌, ◌-◌, ◌≤◌, ◌<◌}
+use Rattle.std.proofs.Common.{Bool, true, false, not, ◌&&◌, List, ◌⊎◌, inl, inr, ⊎_elim, ◌≡◌, refl, sym, ap, ◌∙◌, subst, ℕ, suc, ◌+◌, ◌-◌, ◌≤◌, ◌<◌, Option}
 use Rattle.std.proofs.Common.{arith, ltb-true, ltb-false, leb-true, leb-false, ltb, leb, length, take, drop, get_or, take-suc, take-add}
 use borrow.Author.Tests.{not-true}
 use Rattle.memory.specs.Search.{pick}
@@ -10,7 +10,6 @@ use Rattle.memory.proofs.Tests.{and_split, true_or_false}
 use Rattle.memory.proofs.Puts.{put_append}
 use Rattle.script.specs.declared.Reader.{Reader}
 use Rattle.report.specs.Printing.{longest_line}
-use Rattle.commands.specs.declared.Ground.{Ground}
 use Rattle.script.specs.declared.Progress.{Progress}
 use Rattle.driver.specs.declared.Reached.{Reached}
 use Rattle.driver.specs.declared.Run.{Run}
@@ -19,6 +18,7 @@ use Rattle.driver.specs.Turns.{Ran}
 use Rattle.commands.specs.Given.{Holds}
 use Rattle.driver.specs.Turns.{run_as, run_with_reader, Scanned, LineRun}
 use Rattle.script_run.proofs.Joined.{advanced_append, advanced_one, advanced_ended, printed_before, line_ended_before, resumed_before}
+use Rattle.table.specs.declared.Counts.{Counts}
 
 -- a run, with memory, area and buffer, stands where the board says
 pub record OnBoard (t out₀ : List ℕ) (b : Board) (run : Run) (m area out : List ℕ) : Type 0 where
@@ -27,7 +27,7 @@ pub record OnBoard (t out₀ : List ℕ) (b : Board) (run : Run) (m area out : L
   pub lent : area ≡ b.area
   pub put : Put 0 b.text out₀ out run.written
   pub fits : run.written ≤ length out₀
-  pub known : Holds run.ground t m
+  pub known : Holds run.checked t m
 
 module _ {t out₀ : List ℕ} {b : Board} {run : Run} {m area out : List ℕ} (s : OnBoard t out₀ b run m area out) where
   on_read : (r : Reader) → OnBoard t out₀ (with_reader b r) (run_with_reader run r) m area out
@@ -73,7 +73,7 @@ module _ (t part : List ℕ) (p : Progress) (m₀ area₀ out₀ : List ℕ) whe
     pub inside : at ≤ length part
     pub stands : OnBoard t out₀ (reached at) run m area out
 
-  pub so_far_none : {ground : Ground} → Holds ground t m₀ → SoFar 0 (run_as p ground 0) m₀ area₀ out₀
+  pub so_far_none : {checked : Option Counts} → Holds checked t m₀ → SoFar 0 (run_as p checked 0) m₀ area₀ out₀
   unfolding advanced
   so_far_none known =
       record {

@@ -1,16 +1,16 @@
 -- How the functions that run a part of a script are held to the board of script_run/Parts: the part, what a line's bytes do, and its
 -- line feed. Assumes nothing.
-use Rattle.std.specs.Prelude.{false, List, ◌⊎◌, ◌≡◌, ℕ, ◌+◌, ◌-◌, ◌≤◌, ◌<◌, length, get_or, take, drop}
+use Rattle.std.specs.Prelude.{false, List, ◌⊎◌, ◌≡◌, ℕ, ◌+◌, ◌-◌, ◌≤◌, ◌<◌, length, get_or, take, drop, Option}
 use Rattle.memory.specs.Texts.{line_feed, Put}
 use Rattle.script.specs.declared.Reader.{Reader}
 use Rattle.report.specs.Printing.{longest_line}
-use Rattle.commands.specs.declared.Ground.{Ground}
 use Rattle.driver.specs.declared.Part.{Part}
 use Rattle.script.specs.declared.Progress.{Progress}
 use Rattle.driver.specs.declared.Run.{Run}
 use Rattle.driver.specs.declared.Reached.{Reached}
 use Rattle.script_run.specs.Parts.{Board, line_ended, with_reader, advanced, progress_as, progress_of, resumed}
 use Rattle.commands.specs.Given.{Holds}
+use Rattle.table.specs.declared.Counts.{Counts}
 
 -- ---- a part
 
@@ -27,11 +27,11 @@ pub record Ran (t script : List ℕ) (p : Progress) (m area out m' area' out' : 
 
 -- ---- how the functions of the run are held to it
 
-abbrev pub run_as : (p : Progress) (ground : Ground) (written : ℕ) → Run
-run_as p known written = record { progress = p; ground = known; written = written }
+abbrev pub run_as : (p : Progress) (checked : Option Counts) (written : ℕ) → Run
+run_as p known written = record { progress = p; checked = known; written = written }
 
 abbrev pub run_with_reader : Run → Reader → Run
-run_with_reader r reader = run_as (progress_as reader r.progress.line r.progress.ended) r.ground r.written
+run_with_reader r reader = run_as (progress_as reader r.progress.line r.progress.ended) r.checked r.written
 
 -- the bytes of a line from place `from` on, up to a line feed or the end of the part: all that they change is the reader
 pub record Scanned (part : List ℕ) (from : ℕ) (reader : Reader) (r : Reached) : Type 0 where
@@ -48,4 +48,4 @@ pub record LineRun (t : List ℕ) (p : Progress) (m area out m' area' out' : Lis
   pub lent : area' ≡ (line_ended t (resumed p m area)).area
   pub line : Put at (line_ended t (resumed p m area)).text out out' r.written
   pub room : r.written ≤ at + longest_line
-  pub known : Holds r.ground t m'
+  pub known : Holds r.checked t m'

@@ -13,10 +13,10 @@ ghost use Rattle.script_run.specs.Parts.{first_progress, end_text};
 ghost use Rattle.driver.specs.Turns.{Ran};
 ghost use Rattle.driver.specs.Turns.{run_with_reader};
 
-use commands::Ground;
 pub use report::LONGEST_LINE;
 pub use script::Progress;
 use script::Reader;
+use table::Counts;
 
 // What a part came to: how many of its bytes were read, and how many bytes were put into the buffer.
 #[derive(Clone, Copy)]
@@ -30,7 +30,7 @@ pub struct Part {
 #[derive(Clone, Copy)]
 pub struct Run {
     pub progress: Progress,
-    pub ground: Ground,
+    pub checked: Option<Counts>,
     pub written: usize,
 }
 
@@ -45,8 +45,8 @@ pub struct Reached {
 pub fn begin(t: &[u8], m: &mut [u8])
     ensures { m.new ≡ begun t.now m.old }
 {
-    layer::start(t, m);
-    layer::stop(t, m);
+    let _ = layer::start(t, m);
+    let _ = layer::stop(t, m);
 }
 
 // The beginning of a script.
@@ -76,25 +76,23 @@ pub fn run_some(
     let room = out.len();
     let mut at = 0;
     let mut run = Run {
-        progress: progress,
-        ground: commands::examine(t, m),
+        progress,
+        checked: commands::examine(t, m),
         written: 0,
     };
+    // No `for` or `split`: a turn goes on behind the line feed that `scan` found, lines are not known before it, and the place where the
+    // room ends is answered.
     while (at < n) & goes_on(run, room) {
-        let p = run.progress;
-        let before = p.reader;
-        let reached = lines::scan(part, at, before);
-        let reader = reached.reader;
+        let reached = lines::scan(part, at, run.progress.reader);
         at = reached.at;
-        run = with_reader(run, reader);
+        run = with_reader(run, reached.reader);
         if at < n {
             run = lines::end_line(t, m, area, out, run);
             at += 1;
         }
     }
-    let p = run.progress;
     Part {
-        progress: p,
+        progress: run.progress,
         read: read_of(run, at, n),
         written: run.written,
     }
@@ -104,37 +102,25 @@ pub fn run_some(
 fn goes_on(run: Run, room: usize) -> bool
     ensures { result ≡ (not run.progress.ended && leb (run.written + longest_line) room) }
 {
-    let p = run.progress;
-    if room < LONGEST_LINE {
-        return false;
-    }
-    !p.ended & (run.written <= room - LONGEST_LINE)
+    !run.progress.ended && room >= LONGEST_LINE && run.written <= room - LONGEST_LINE
 }
 
 // All of the part counts as read where a line could not be read.
 fn read_of(run: Run, at: usize, n: usize) -> usize
     ensures { result ≡ pick run.progress.ended n at }
 {
-    let p = run.progress;
-    if p.ended {
-        return n;
-    }
-    at
+    if run.progress.ended { n } else { at }
 }
 
 fn with_reader(run: Run, reader: Reader) -> Run
     ensures { result ≡ run_with_reader run reader }
 {
-    let p = run.progress;
-    let ground = run.ground;
     Run {
         progress: Progress {
-            reader: reader,
-            line: p.line,
-            ended: p.ended,
+            reader,
+            ..run.progress
         },
-        ground: ground,
-        written: run.written,
+        ..run
     }
 }
 
@@ -146,8 +132,7 @@ pub fn finish(out: &mut [u8], progress: Progress) -> usize
     if out.len() < LONGEST_LINE {
         return 0;
     }
-    let reader = progress.reader;
-    if progress.ended | lines::is_empty(reader) {
+    if progress.ended || lines::is_empty(progress.reader) {
         return 0;
     }
     report::put_refusal(out, 0, progress.line)

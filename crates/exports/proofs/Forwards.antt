@@ -1,7 +1,7 @@
 -- A forwarded call: its answer as a number and a value.
 -- Assumes nothing.
 use Rattle.std.proofs.Common.{List, ◌≡◌, ap, ℕ}
-use Rattle.calls.specs.declared.Answer as calls
+use Rattle.calls.specs.Answers as calls
 use Rattle.calls.specs.Answers.{Outcome, outcome, number_of, value_of}
 use Rattle.group.specs.Groups.{GroupOutcome, group_outcome}
 use Rattle.exports.specs.declared.Answer.{Answer}

@@ -1,4 +1,6 @@
 // The calls of the layer under C names. Each takes what document 01 lends it, and answers its number and value.
+#![tactic(auto, using(crate::proofs::Forwards::forwards))]
+
 ghost use Rattle.std.specs.Prelude.{not, [], ◌≡◌};
 ghost use Rattle.calls.specs.Answers.{number_of, value_of};
 ghost use Rattle.layer.specs.Step.{start, stop, send, initialise, receive, status, marks, clear_marks, start_periodic, stop_periodic, indication, confirm, tick, step};

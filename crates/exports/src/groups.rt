@@ -1,4 +1,6 @@
 // The group send under C names, in both forms. It takes what document 02 lends it, and answers number and word.
+#![tactic(auto, using(crate::proofs::Forwards::forwards_group))]
+
 ghost use Rattle.std.specs.Prelude.{◌≡◌};
 ghost use Rattle.group.specs.Pairs.{in_bytes, in_records};
 ghost use Rattle.group.specs.Groups.{group_of, group_step};

@@ -20,7 +20,7 @@ pub use forwarded::{
 pub use groups::{birnenschloss_send_group, birnenschloss_send_records};
 pub use sheets::{birnenschloss_sheet_begin, birnenschloss_sheet_drain};
 
-// A number of document 01 and what is returned with it.
+// A number of document 01 and what is returned with it, as C reads them.
 #[repr(C)]
 #[derive(Clone, Copy)]
 pub struct Answer {
@@ -29,6 +29,7 @@ pub struct Answer {
 }
 
 // The check of a table: 0, or 5 with the place of the first wrong record.
+#[tactic(auto, using(table::proofs::Verdicts::place_bound))]
 #[unsafe(no_mangle)]
 pub extern "C" fn birnenschloss_check(table: &[u8]) -> Answer
     ensures { result ≡ answer_of (check table.now) }
@@ -45,6 +46,5 @@ pub extern "C" fn birnenschloss_check(table: &[u8]) -> Answer
 pub extern "C" fn birnenschloss_ipdu_length(table: &[u8], ipdu: u32) -> u32
     ensures { result ≡ ipdu_length table.now ipdu }
 {
-    let length = config::ipdu_length(table, table::IpduNumber(ipdu));
-    length.0
+    config::ipdu_length(table, table::IpduNumber(ipdu)).map_or(0, |length| length.0)
 }

@@ -2,7 +2,7 @@
 // can't be read.
 #![tactic(auto)]
 
-ghost use Rattle.std.specs.Prelude.{◌≡◌, ◌<◌, ◌≤◌, IfOk, IsErr, IsFalse, IsUtf8, length, take};
+ghost use Rattle.std.specs.Prelude.{◌<◌, IfOk, IsErr, IsUtf8, length, take};
 ghost use Rattle.std.specs.Io.KnownBytes.{Consumes, IsAtEnd};
 ghost use Rattle.std.specs.Io.{ReadsAtMost, StartsWith};
 
@@ -14,49 +14,24 @@ use std::{io, str};
 // std puts this behind the words of a system error, and then its number.
 const BEFORE_NUMBER: &str = " (os error ";
 
-// Whether a file could be read, and how many bytes of it.
-#[derive(Drop)]
-pub struct Filled {
-    pub whole: bool,
-    pub count: usize,
-}
-
-// Reads a file until `bytes` is full or the file ends.
-pub fn read_whole<R: Files>(rt: &R, stderr: &impl Print, path: &[u8], bytes: &mut [u8]) -> Filled
-    ensures in_bounds { result.count ≤ length bytes.new }
-    ensures prefix { result.count ≡ length (take result.count bytes.new) }
-    ensures failed { IsFalse result.whole → result.count ≡ 0 }
-{
-    match read_some(rt, path, bytes) {
-        Ok(count) => Filled { whole: true, count },
-        Err(error) => {
-            fail(stderr, path, &error);
-            Filled {
-                whole: false,
-                count: 0,
-            }
-        }
-    }
-}
-
-fn read_some<R: Files>(rt: &R, path: &[u8], bytes: &mut [u8]) -> io::Result<usize>
+// Reads a file until `bytes` is full or the file ends, and answers how many bytes it read.
+pub fn read_whole<R: Files>(rt: &R, path: &[u8], bytes: &mut [u8]) -> io::Result<usize>
     ensures { ReadsAtMost result bytes.new }
 {
-    let mut file = open(rt, path)?;
-    fill(&mut file, bytes)
+    fill(&mut open(rt, path)?, bytes)
 }
 
 // Opens a file to read it. A path that is not UTF-8 is refused, since std takes a path only as text.
 pub fn open<R: Files>(rt: &R, path: &[u8]) -> io::Result<R::File>
     ensures { ¬ IsUtf8 path.now → IsErr result }
 {
-    match str::from_utf8(path) {
-        Ok(text) => File::open(rt, text),
-        Err(_) => Err(Error::new(ErrorKind::InvalidFilename, "the path is not UTF-8")),
-    }
+    let Ok(text) = str::from_utf8(path) else {
+        return Err(Error::new(ErrorKind::InvalidFilename, "the path is not UTF-8"));
+    };
+    File::open(rt, text)
 }
 
-// Reads until `bytes` is full or the reader ends.
+// Reads until `bytes` is full or the reader ends. A while, since only a read tells how much it gave.
 fn fill<R: Read>(reader: &mut R, bytes: &mut [u8]) -> io::Result<usize>
     ensures bound { ReadsAtMost result bytes.new }
     ensures read { IfOk result (λ n. Consumes (R.remaining reader.old) (R.remaining reader.new) (take n bytes.new)) }

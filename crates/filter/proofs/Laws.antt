@@ -79,23 +79,6 @@ module _ (f : Filter) (n p : ℕ) (period : p - 1 ≡ greatest_count f) where
   unfolding next_count
   next_returns h = rw (le-ltb n (greatest_count f) (omega (arith, period, h)))
 
--- a count that is not 0 is in range where there is a period and it is below that
-pub some_in_range : (f : Filter) (n p d : ℕ) → f ≡ OneEveryN p d → (n ≡ 0 → ⊥) → ltb n p ≡ leb n (greatest_count f)
-unfolding greatest_count
-some_in_range f n p d e some =
-    ⊎_elim
-    (λ (h : n < p). rw (e, lt-ltb n p h, le-leb n (p - 1) (omega (arith, h))))
-    (λ (h : p ≤ n). rw (e, le-ltb n p h, lt-leb n (p - 1) (omega (arith, h, some))))
-    (lt_or_le n p)
-
--- with another filter none is
-pub none_in_range : (f : Filter) (n : ℕ) → ((p o : ℕ) → f ≡ OneEveryN p o → ⊥) → (n ≡ 0 → ⊥) → false ≡ leb n (greatest_count f)
-none_in_range f n e some = rw (← no_period f e) (sym (lt-leb n 0 (omega (arith, some))))
-
--- 0 is in every range
-pub zero_in_range : (n greatest : ℕ) → n ≡ 0 → true ≡ leb n greatest
-zero_in_range n greatest e = sym (le-leb n greatest (omega (arith, e)))
-
 -- a count in its range is its own remainder
 pub own_remainder : (p n : ℕ) → n ≤ p - 1 → n % p ≡ n
 own_remainder zero n h = let e : n ≡ 0 = omega (arith, h) in rw e
@@ -206,3 +189,6 @@ by_number c d n = ⊎_elim (each n) high (lt_or_le n 15)
           no 7 (omega arith),
           no 14 (omega arith),
         )
+
+-- what `passes` has at hand of the filters that compare with the old value or count
+pub ruleset old_tests = (above_old, at_most_old, below_old, at_least_old, every_passes)

@@ -1,10 +1,9 @@
 -- The examples of W-202, proved by computation from the definitions; each step is taken as `step_fast` has it.
 -- Assumes nothing.
-use Rattle.std.proofs.Common.{List, [], ◌∷◌, ◌≡◌, refl, ap, ◌∙◌, ℕ, leb, length, replicate}
+use Rattle.std.proofs.Common.{List, [], ◌∷◌, ◌≡◌, refl, ap, ◌∙◌, ℕ, leb, length, replicate, Ok, Err}
 use Rattle.state.specs.Layout.{memory_size, area_size}
 use Rattle.calls.specs.Answers.{Outcome}
-use Rattle.layer.specs.declared.Admission.{Admission}
-use Rattle.layer.specs.declared.Admission.TheVariants.{Admitted, Refused}
+use Rattle.layer.specs.Admission.{Admission}
 use Rattle.layer.specs.Admission.{admission}
 use Rattle.layer.specs.Step.{Call, send, run, memory_after}
 use Rattle.group.specs.declared.Pair.{Pair}
@@ -28,8 +27,8 @@ each_fast t (p ∷ ps) s =
     ∙ each_fast t ps (with_send s (send_fast t p s.area s.memory))
 
 abbrev fast_as : Admission → List ℕ → Group → List ℕ → GroupOutcome
-fast_as (Admitted c) t g m = group_by (send_fast t) g m
-fast_as (Refused a) t g m = refuse a g m
+fast_as (Ok c) t g m = group_by (send_fast t) g m
+fast_as (Err r) t g m = refuse (Err r) g m
 
 abbrev group_fast : List ℕ → Group → List ℕ → GroupOutcome
 group_fast t g m = fast_as (admission t m (leb area_size (length g.area))) t g m
@@ -39,8 +38,8 @@ unfolding group_step
 group_fast_lem t g m = by (admission t m (leb area_size (length g.area)))
   where
     by : (a : Admission) → if_group_admitted a t g m ≡ fast_as a t g m
-    by (Admitted c) = rw (each_fast t g.pairs.list (sent 0 m g.area []))
-    by (Refused a) = refl
+    by (Ok c) = rw (each_fast t g.pairs.list (sent 0 m g.area []))
+    by (Err a) = refl
 
 abbrev memory_fast : List ℕ → List Call → List ℕ → List ℕ
 memory_fast t [] m = m

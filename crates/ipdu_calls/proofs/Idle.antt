@@ -13,7 +13,7 @@ use Rattle.state.specs.Updates.{with_delay, with_timer}
 use Rattle.state.proofs.RowLaws.{ipdu_same}
 use Rattle.transmission.specs.Requests.{is_due, after_request}
 use Rattle.timing.specs.Ticks.{tick_delay, deadline_expires, tick_deadline, period_elapses, tick_period, timer_expires, tick_timer}
-use Rattle.calls.specs.declared.Answer.TheVariants.{Done}
+use Rattle.calls.specs.Answers.{done_with}
 use Rattle.calls.specs.Answers.{outcome}
 use Rattle.ipdu_calls.specs.RowTicks.{row_tick_as, due_bit_as}
 
@@ -62,7 +62,7 @@ module _ (m : List ℕ) (k : ℕ) (p : Ipdu) (s : IpduState) (row : s ≡ ipdu_s
         let all = each_true (eqb s.requested 0) (eqb s.wanted 0 ∷ eqb s.running 0 ∷ eqb s.delay 0 ∷ []) idle in
         search eqb-true
 
-    pub send_idle : Bytes m → (area : List ℕ) → outcome (Done 0) m area ≡ row_tick_as Send p k area m
+    pub send_idle : Bytes m → (area : List ℕ) → outcome (done_with 0) m area ≡ row_tick_as Send p k area m
     unfolding after_request
     send_idle bytes area =
         let still : tick_period p (tick_deadline (tick_delay s)) ≡ s =

@@ -17,7 +17,7 @@ use Rattle.delivery.specs.Delivery.{mark_objects}
 use Rattle.delivery.specs.Due.{time_error, mark_due}
 use Rattle.transmission.specs.Requests.{ipdu, after_request, copied_to_area}
 use Rattle.timing.specs.Ticks.{tick_delay, tick_deadline, tick_period, tick_timer}
-use Rattle.calls.specs.declared.Answer.TheVariants.{Done}
+use Rattle.calls.specs.Answers.{done_with}
 use Rattle.calls.specs.Answers.{Outcome, outcome}
 use Rattle.calls.specs.Tick.{TickResult, tick_as, tick_ipdu, tick_result, joined, tick_turn, ticks, tick_in}
 use Rattle.calls.proofs.Ticks.{ipdu_few}
@@ -106,14 +106,14 @@ module _ (t : List ℕ) (c : Counts) (right : Right t c) where
 -- the loop over all I-PDUs, and the marks where there are any
 module _ (t : List ℕ) (c : Counts) (k w due : ℕ) (area m area₀ m₀ : List ℕ) (ready : Ready t c m₀) (most : k ≤ c.ipdus) (least : c.ipdus ≤ k)
     (so : tick_result w m area ≡ row_ticks t k area₀ m₀) (dues : due ≡ due_word t k area₀ m₀) where
-  pub ticked_marked : (n : List ℕ) → n ≡ mark_due t c due m → outcome (Done w) n area ≡ tick_in t c area₀ m₀
+  pub ticked_marked : (n : List ℕ) → n ≡ mark_due t c due m → outcome (done_with w) n area ≡ tick_in t c area₀ m₀
   unfolding tick_in
   ticked_marked n marks =
       let all : k ≡ c.ipdus = omega arith in
       let last : tick_result w n area ≡ ticks t c k area₀ m₀ =
       rw (marks, dues)
       (ap (marks_last t c (due_word t k area₀ m₀)) so ∙ sym (marked_once t c ready.right area₀ m₀ (omega (arith, ready.long)) k most)) in
-      ap (λ (a : TickResult). outcome (Done a.word) a.memory a.area) (rw all at last)
+      ap (λ (a : TickResult). outcome (done_with a.word) a.memory a.area) (rw all at last)
 
-  pub ticked_unmarked : due ≡ 0 → outcome (Done w) m area ≡ tick_in t c area₀ m₀
+  pub ticked_unmarked : due ≡ 0 → outcome (done_with w) m area ≡ tick_in t c area₀ m₀
   ticked_unmarked none = ticked_marked m (rw none (sym (none_due t c ready.right.shape m)))

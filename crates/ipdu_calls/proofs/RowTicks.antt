@@ -14,7 +14,7 @@ use Rattle.state.specs.Layout.{memory_size, ipdu_state, with_ipdu_state}
 use Rattle.state.proofs.RowLaws.{ipdu_length_lem}
 use Rattle.transmission.specs.Requests.{ipdu, is_due, after_request, copied_to_area}
 use Rattle.timing.specs.Ticks.{tick_delay, tick_deadline, tick_period, tick_timer}
-use Rattle.calls.specs.declared.Answer.TheVariants.{Done}
+use Rattle.calls.specs.Answers.{done_with}
 use Rattle.calls.specs.Answers.{Outcome, outcome, value_of}
 use Rattle.calls.specs.Tick.{TickResult, tick_result, joined}
 use Rattle.calls.proofs.Ticks.{bit_most, word_more, word_fits}
@@ -58,7 +58,7 @@ rows_long t n area m few =
 
 -- ---- one I-PDU more
 
-module _ (t : List ℕ) (k w v : ℕ) (area m b n : List ℕ) (does : outcome (Done v) n b ≡ row_tick t k area m) where
+module _ (t : List ℕ) (k w v : ℕ) (area m b n : List ℕ) (does : outcome (done_with v) n b ≡ row_tick t k area m) where
   pub row_word_more : w < 2 ^ k → w + v < 2 ^ (k + 1)
   row_word_more low = word_more k w v low (rw (ap (λ (o : Outcome). value_of o.answer) does) (row_most t k area m))
 
@@ -84,7 +84,7 @@ module _ (t : List ℕ) (k due d : ℕ) (m : List ℕ) (bit : d ≡ due_bit t k 
 pub sent_row : (m : List ℕ) (k : ℕ) (p : Ipdu) (r s d next : IpduState) → r ≡ ipdu_state m k → s ≡ tick_delay r → d ≡ tick_deadline s
     → next ≡ tick_period p d → (v : ℕ) (n area b : List ℕ)
     → v ≡ pick (is_due p next) (2 ^ k) 0 → n ≡ with_ipdu_state m k (after_request p next)
-    → b ≡ pick (is_due p next) (copied_to_area p.length.0 k m area) area → outcome (Done v) n b ≡ row_tick_as Send p k area m
+    → b ≡ pick (is_due p next) (copied_to_area p.length.0 k m area) area → outcome (done_with v) n b ≡ row_tick_as Send p k area m
 sent_row m k p r s d next row delays ends counts v n area b requests stores copies = rw (requests, stores, copies, counts, ends, delays, row)
 
 -- ---- by the direction
@@ -97,8 +97,8 @@ module _ (t : List ℕ) (k : ℕ) (area m : List ℕ) (p : Ipdu) (same : p ≡ i
   pub row_sends : (x : Outcome) → p.direction ≡ Send → x ≡ row_tick_as Send p k area m → x ≡ row_tick t k area m
   row_sends x sends does = does ∙ row_as Send sends
 
-  pub row_receives : (n : List ℕ) → p.direction ≡ Receive → n ≡ (row_tick_as Receive p k [] m).memory → outcome (Done 0) n area ≡ row_tick t k area m
-  row_receives n receives does = ap (λ (n : List ℕ). outcome (Done 0) n area) does ∙ row_as Receive receives
+  pub row_receives : (n : List ℕ) → p.direction ≡ Receive → n ≡ (row_tick_as Receive p k [] m).memory → outcome (done_with 0) n area ≡ row_tick t k area m
+  row_receives n receives does = ap (λ (n : List ℕ). outcome (done_with 0) n area) does ∙ row_as Receive receives
 
   pub due_sends : (x : ℕ) → p.direction ≡ Send → x ≡ due_bit_as Send k m → x ≡ due_bit t k m
   unfolding due_bit

@@ -9,7 +9,7 @@ use Rattle.state.specs.declared.IpduState.{IpduState}
 use Rattle.state.specs.Layout.{ipdu_state, with_ipdu_state}
 use Rattle.transmission.specs.Requests.{ipdu}
 use Rattle.timing.specs.Ticks.{tick_delay, deadline_expires, tick_deadline, tick_period, timer_expires, tick_timer}
-use Rattle.calls.specs.declared.Answer.TheVariants.{Done}
+use Rattle.calls.specs.Answers.{done_with}
 use Rattle.calls.specs.Answers.{Outcome, outcome}
 use Rattle.calls.specs.Calls.{try_request}
 use Rattle.calls.specs.Tick.{TickResult, tick_result, joined}
@@ -17,7 +17,7 @@ use Rattle.calls.specs.Tick.{TickResult, tick_result, joined}
 -- a tick of I-PDU k that marks nothing
 abbrev pub row_tick_as : Direction → Ipdu → ℕ → List ℕ → List ℕ → Outcome
 row_tick_as Send p k area m = try_request p k (tick_period p (tick_deadline (tick_delay (ipdu_state m k)))) area m
-row_tick_as Receive p k area m = outcome (Done 0) (with_ipdu_state m k (tick_timer p (ipdu_state m k))) area
+row_tick_as Receive p k area m = outcome (done_with 0) (with_ipdu_state m k (tick_timer p (ipdu_state m k))) area
 
 unfoldable pub row_tick : List ℕ → ℕ → List ℕ → List ℕ → Outcome
 row_tick t k area m = row_tick_as (ipdu t k).direction (ipdu t k) k area m

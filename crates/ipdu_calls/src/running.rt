@@ -4,7 +4,7 @@ ghost use Rattle.state.specs.Ranges.{Ready};
 ghost use Rattle.calls.specs.Answers.{outcome};
 ghost use Rattle.calls.specs.Calls.{stop_in, periodic_in};
 
-use calls::Answer;
+use calls::{Answer, Success};
 use state::RUNNING;
 use table::Counts;
 
@@ -14,7 +14,7 @@ pub fn stop(m: &mut [u8]) -> Answer
     ensures { outcome result m.new [] ≡ stop_in m.old }
 {
     memory::write8(m, RUNNING, 0);
-    Answer::Done(0)
+    Ok(Success::Done(0))
 }
 
 // Starts the period of each I-PDU that has one, or halts it.
@@ -23,5 +23,5 @@ pub fn periodic(t: &[u8], c: Counts, m: &mut [u8], on: bool) -> Answer
     ensures { outcome result m.new [] ≡ periodic_in on t.now c m.old }
 {
     timing::set_periods(t, c, m, on);
-    Answer::Done(0)
+    Ok(Success::Done(0))
 }

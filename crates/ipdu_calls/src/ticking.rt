@@ -6,12 +6,12 @@ ghost use Rattle.config.specs.declared.Direction.TheVariants.{Send, Receive};
 ghost use Rattle.state.specs.Layout.{memory_size, area_size};
 ghost use Rattle.state.specs.Ranges.{Ready};
 ghost use Rattle.transmission.specs.Requests.{ipdu};
-ghost use Rattle.calls.specs.declared.Answer.TheVariants.{Done};
+ghost use Rattle.calls.specs.Answers.{done_with};
 ghost use Rattle.calls.specs.Answers.{outcome};
 ghost use Rattle.calls.specs.Tick.{tick_in};
 ghost use Rattle.ipdu_calls.specs.RowTicks.{row_tick_as, row_tick, due_bit_as, due_bit};
 
-use calls::Answer;
+use calls::{Answer, Success};
 use config::{Direction, Ipdu};
 use table::{Counts, IpduNumber};
 
@@ -29,32 +29,28 @@ pub fn tick(t: &[u8], c: Counts, m: &mut [u8], area: &mut [u8]) -> Answer
     requires area_size_in_bounds { area_size ≤ length area.old }
     ensures { outcome result m.new area.new ≡ tick_in t.now c area.old m.old }
 {
-    let n = c.ipdus;
     let mut word = 0;
     let mut due = 0;
-    let mut k = 0;
-    while k < n {
+    for k in 0..c.ipdus {
         let turn = tick_ipdu(t, m, area, IpduNumber(k));
         word += turn.word;
         due += turn.due;
-        k += 1;
     }
     if due != 0 {
         delivery::mark_due(t, c, m, due);
     }
-    Answer::Done(word)
+    Ok(Success::Done(word))
 }
 
 // Moves the times of one I-PDU on, and marks nothing.
 fn tick_ipdu(t: &[u8], m: &mut [u8], area: &mut [u8], number: IpduNumber) -> Turn
     requires number_in_bounds { (table_length (number.0 + 1) 0 ≤ length t.now) × ((ipdu t.now number.0).length.0 ≤ 8) }
     requires number_lt_most_ipdus { (number.0 < most_ipdus) × (memory_size ≤ length m.old) × (area_size ≤ length area.old) }
-    ensures row { outcome (Done result.word) m.new area.new ≡ row_tick t.now number.0 area.old m.old }
+    ensures row { outcome (done_with result.word) m.new area.new ≡ row_tick t.now number.0 area.old m.old }
     ensures due { result.due ≡ due_bit t.now number.0 m.old }
 {
     let p = config::decode_ipdu(t, number);
-    let direction = p.direction;
-    match direction {
+    match p.direction {
         Direction::Send => tick_send(m, area, number, p),
         Direction::Receive => Turn {
             word: 0,
@@ -66,7 +62,7 @@ fn tick_ipdu(t: &[u8], m: &mut [u8], area: &mut [u8], number: IpduNumber) -> Tur
 // Delay, deadline, period and request of a send I-PDU. Where none is open, wanted, running or delayed nothing changes.
 fn tick_send(m: &mut [u8], area: &mut [u8], number: IpduNumber, p: Ipdu) -> Turn
     requires { (number.0 < most_ipdus) × (memory_size ≤ length m.old) × (area_size ≤ length area.old) × (p.length.0 ≤ 8) }
-    ensures row { outcome (Done result.word) m.new area.new ≡ row_tick_as Send p number.0 area.old m.old }
+    ensures row { outcome (done_with result.word) m.new area.new ≡ row_tick_as Send p number.0 area.old m.old }
     ensures due { result.due ≡ due_bit_as Send number.0 m.old }
 {
     let r = state::ipdu_state(m, number);
@@ -78,7 +74,7 @@ fn tick_send(m: &mut [u8], area: &mut [u8], number: IpduNumber, p: Ipdu) -> Turn
     let due = bit_where(number, timing::deadline_expires(s));
     Turn {
         word: transmission::try_request(m, area, number, p, next),
-        due: due,
+        due,
     }
 }
 
@@ -102,7 +98,8 @@ fn bit_where(number: IpduNumber, due: bool) -> u32
     ensures { result ≡ pick due (2 ^ number.0) 0 }
 {
     if due {
-        return bits::power_of_two(number.0) as u32;
+        bits::power_of_two(number.0) as u32
+    } else {
+        0
     }
-    0
 }

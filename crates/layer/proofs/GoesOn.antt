@@ -1,29 +1,28 @@
 -- A call that is not refused before it looks at its own numbers: the table is right, memory in range and the layer runs. The laws of the calls
 -- about one object ask for plain values, so that a search finds them. Assumes nothing.
-use Rattle.std.proofs.Common.{Bool, true, false, List, ◌++◌, ◌≡◌, refl, sym, ap, ◌∙◌, ℕ, ◌≤◌, ◌<◌, arith, leb, eqb, length, drop}
+use Rattle.std.proofs.Common.{Bool, true, false, List, ◌++◌, ◌≡◌, refl, sym, ap, ◌∙◌, ℕ, ◌≤◌, ◌<◌, arith, leb, eqb, length, drop, Ok, Err, Result}
+use Rattle.std.specs.Result.{IsErrAnd}
+use Rattle.std.proofs.lemmas.Result.{err_from_is_err_and}
 use Rattle.memory.proofs.Tests.{and_false, true_not_false}
 use Rattle.table.specs.declared.Counts.{Counts}
-use Rattle.table.specs.declared.Verdict.TheVariants.{Accepted}
 use Rattle.table.specs.Records.{counts}
 use Rattle.table.specs.Check.{Shape, check}
 use Rattle.table.proofs.Accepted.{accepted_right}
 use Rattle.state.specs.Layout.{memory_size, running_at}
 use Rattle.state.specs.Ranges.{Ready}
-use Rattle.calls.specs.declared.Answer.{Answer}
-use Rattle.calls.specs.Answers.{outcome, number_of, value_of}
-use Rattle.layer.specs.declared.Admission.{Admission}
-use Rattle.layer.specs.declared.Admission.TheVariants.{Admitted, Refused}
-use Rattle.layer.specs.declared.Reply.{Reply}
+use Rattle.calls.specs.declared.Refusal.{Refusal}
+use Rattle.calls.specs.Answers.{outcome, Answer}
+use Rattle.layer.specs.Admission.{Admission}
 use Rattle.layer.specs.Admission.{Open, Admits, working_memory, admission, on_working_memory}
 use Rattle.layer.specs.Step.{Call, long_enough, describe, step}
-use Rattle.layer.specs.Promises.{refusal_of, refusal, Goes, reply, replied, replied_of}
+use Rattle.layer.specs.Promises.{refusal_of, refusal, Goes, answered, replied_of}
 use Rattle.layer.proofs.Admitted.{admission_by_lem, admits, on_working_memory_lem, reads_working_memory}
 
 -- ---- what is found where a call goes on
 
 pub record Found (t m : List ℕ) : Type 0 where
-  pub table : check t ≡ Accepted (counts t)
-  pub admitted : admission t m true ≡ Admitted (counts t)
+  pub table : check t ≡ Ok (counts t)
+  pub admitted : admission t m true ≡ Ok (counts t)
   pub running : eqb (running_at (working_memory m)) 0 ≡ false
 
 found : (t m : List ℕ) → refusal t m true ≡ 0 → Found t m
@@ -33,7 +32,7 @@ found t m e =
     (λ s e. absurd (not_0 7 (omega arith) e))
     (λ c h long low on s e.
     let same = (accepted_right t c h).counted in
-    record { table = h ∙ ap Accepted same; admitted = sym s ∙ ap Admitted same; running = on })
+    record { table = h ∙ ap Ok same; admitted = sym s ∙ ap Ok same; running = on })
     refl e
   where
     not_0 : (n : ℕ) → 0 < n → n ≡ 0 → ⊥
@@ -81,22 +80,22 @@ module _ (call : Call) (runs : (describe call).running ≡ true) (long : long_en
   unfolding step
   own_part = rw (runs, long, (found_here goes).admitted)
 
-  pub goes_gives : (c : Counts) (a : Answer) (r : Reply) (n area : List ℕ) → c ≡ counts t
-      → outcome a n area ≡ (describe call).does t c (working_memory m) → r ≡ reply (number_of a) (value_of a)
-      → replied r (n ++ drop memory_size m) ≡ replied_of (step t call m)
-  goes_gives c a r n area same does e = rw (e, own_part, ← same) (ap replied_of (on_working_memory_lem ((describe call).does t c) m a n area does))
+  pub goes_gives : (c : Counts) (a : Answer) (n area : List ℕ) → c ≡ counts t
+      → outcome a n area ≡ (describe call).does t c (working_memory m) → answered a (n ++ drop memory_size m) ≡ replied_of (step t call m)
+  goes_gives c a n area same does = rw (own_part, ← same) (ap replied_of (on_working_memory_lem ((describe call).does t c) m a n area does))
 
-  pub goes_reads : (c : Counts) (a : Answer) (r : Reply) (area : List ℕ) → c ≡ counts t
-      → outcome a (working_memory m) area ≡ (describe call).does t c (working_memory m) → r ≡ reply (number_of a) (value_of a)
-      → replied r m ≡ replied_of (step t call m)
-  goes_reads c a r area same does e = rw (e, own_part, ← same) (ap replied_of (reads_working_memory ((describe call).does t c) m a area does))
+  pub goes_reads : (c : Counts) (a : Answer) (area : List ℕ) → c ≡ counts t
+      → outcome a (working_memory m) area ≡ (describe call).does t c (working_memory m) → answered a m ≡ replied_of (step t call m)
+  goes_reads c a area same does = rw (own_part, ← same) (ap replied_of (reads_working_memory ((describe call).does t c) m a area does))
 
 -- ---- whether it goes on
 
-pub goes_when : {t m : List ℕ} {fits : Bool} {a : Admission} {c : Counts} → Admits t m fits a → a ≡ Admitted c → 0 ≡ refusal t m fits
+pub goes_when : {t m : List ℕ} {fits : Bool} {a : Admission} {c : Counts} → Admits t m fits a → a ≡ Ok c → 0 ≡ refusal t m fits
 unfolding refusal
 goes_when h e = rw (← h.same, e)
 
-pub refused_when : {t m : List ℕ} {fits : Bool} {a : Admission} {r : Answer} {n : ℕ} → Admits t m fits a → a ≡ Refused r → n ≡ number_of r → n ≡ refusal t m fits
+-- as `?` passes the refusal on
+pub refused_when : {t m : List ℕ} {fits : Bool} {a : Admission} {r : Refusal} (x : Result (Unit {0}) Refusal) → Admits t m fits a → a ≡ Err r
+    → IsErrAnd x (λ s. s ≡ r) → refusal_of x ≡ refusal t m fits
 unfolding refusal
-refused_when h e same = rw (← h.same, e) same
+refused_when x h e passed = let p = err_from_is_err_and x passed in rw (← h.same, e, p.1, p.2)

@@ -1,17 +1,16 @@
 -- A start leaves every stored number in its range, each call keeps them there, and so does a step over any lent memory.
 -- Assumes: the table was accepted and holds bytes, a value that is told has 32 bits, and an indication is lent bytes.
-use Rattle.std.proofs.Common.{true, false, ◌&&◌, List, ◌++◌, ◌≡◌, refl, ℕ, ◌^◌, ◌≤◌, ◌<◌, arith, leb, eqb, length, drop, length-append}
+use Rattle.std.proofs.Common.{true, false, ◌&&◌, List, ◌++◌, ◌≡◌, refl, ℕ, ◌^◌, ◌≤◌, ◌<◌, arith, leb, eqb, length, drop, length-append, Ok}
 use Rattle.memory.specs.Bytes.{Bytes}
 use Rattle.memory.proofs.Search.{picked}
 use Rattle.table.specs.declared.Counts.{Counts}
-use Rattle.table.specs.declared.Verdict.TheVariants.{Accepted}
 use Rattle.table.specs.Check.{check, Right}
 use Rattle.state.specs.Layout.{memory_size, running_at}
 use Rattle.state.specs.Ranges.{in_range, Ready}
 use Rattle.state.proofs.Running.{ready_running}
 use Rattle.calls.proofs.ReadyKept.{ready_stop, ready_send, ready_initialise, ready_receive, ready_status, ready_marks, ready_clear_marks, ready_periodic}
 use Rattle.calls.proofs.ReadyKept.{ready_indication, ready_confirm, ready_tick}
-use Rattle.layer.specs.declared.Admission.{Admission}
+use Rattle.layer.specs.Admission.{Admission}
 use Rattle.layer.specs.Admission.{working_memory, admission, start_admission, if_admitted}
 use Rattle.startup.specs.Start.{prepared, started}
 use Rattle.layer.specs.Step.{Call, start, stop, send, initialise, receive, status, marks, clear_marks, start_periodic, stop_periodic, indication, confirm, tick}
@@ -54,7 +53,7 @@ working_ready t c x m ready =
     }
 
 -- a step, admitted or refused
-pub step_ready : (t : List ℕ) (c : Counts) → check t ≡ Accepted c → (call : Call) (m : List ℕ) → WorkingReady t c m
+pub step_ready : (t : List ℕ) (c : Counts) → check t ≡ Ok c → (call : Call) (m : List ℕ) → WorkingReady t c m
     → ((i v : ℕ) → (describe call).told ≡ told_send i v → v < 2 ^ 32) → ((i v : ℕ) → (describe call).told ≡ told_initialise i v → v < 2 ^ 32)
     → Bytes (describe call).bytes → WorkingReady t c (step t call m).memory
 unfolding step admission start_admission

@@ -8,7 +8,7 @@ use Rattle.state.specs.Layout.{area_size}
 use Rattle.calls.specs.Answers.{Outcome}
 use Rattle.calls.specs.Calls.{stop_in, send_in, initialise_in, receive_in, status_in, marks_in, clear_marks_in, periodic_in, indication_in, confirm_in}
 use Rattle.calls.specs.Tick.{tick_in}
-use Rattle.layer.specs.declared.Admission.{Admission}
+use Rattle.layer.specs.Admission.{Admission}
 use Rattle.layer.specs.Admission.{admission, start_admission, if_admitted}
 use Rattle.startup.specs.Start.{start_in}
 

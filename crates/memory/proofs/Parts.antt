@@ -1,14 +1,15 @@
--- Laws of `value`, `bytes_of`, `get`, `part` and `replaced`.
+-- Laws of `value`, `bytes_of`, `get_or`, `part` and `replaced`.
 -- Assumes nothing.
 use Rattle.std.proofs.Common.{◌≡◌, ℕ, zero, suc, ◌+◌, ◌-◌, ◌*◌, ◌/◌, ◌%◌, ◌^◌, ◌<◌, ◌≤◌, min, ◌⊎◌, List, [], ◌∷◌, ◌++◌, length, get_or, take, drop, set, replicate, sym, refl, ap}
-use Rattle.std.proofs.Common.{◌∙◌, inl, inr, ⊎_elim, append_assoc, append-nil, le_of_suc-le-suc, mod-lt, zero-lt-suc, mul_comm, zero-add, add-one, arith, length-append}
+use Rattle.std.proofs.Common.{◌∙◌, inl, inr, ⊎_elim, append_assoc, append-nil, le_of_suc-le-suc, mod-lt, zero-lt-suc, mul_comm, add-one, arith, length-append}
 use Rattle.std.proofs.Common.{length-drop, take-append-drop, drop_of_length-le, length-take, length-take-le, get_or-drop, take_all, get_or-take, take-suc, drop-drop, take_at}
 use Rattle.std.proofs.Common.{get_or-append-add, ext_get_or, drop_at, pow-add}
-use native.Mathlib.Nat.{zero-mod, one-le-pow, pow-succ'}
-use lib.ListN.{length-replicate, get_or-replicate}
+use native.Mathlib.Nat.{zero-mod, one-le-pow, pow-succ', div-div-eq-div-mul}
 use lib.ListN.{get_or-append, get_or-eq_default}
 use lib.Arith.{mod-mul}
 use lib.Seq.{set_comm, sets, sets-eq, take-nil}
+use borrow.Rule.Slice.PartMut.{put_mid}
+use Rattle.std.specs.Int.{bytes_low_first}
 use Rattle.memory.proofs.Tests.{lt_or_le}
 use Rattle.memory.specs.Bytes.{Bytes, value, bytes_of, part, number_at, replaced}
 
@@ -23,6 +24,10 @@ number_step k at m = rw (add-one at) (go at m)
     go (suc at) [] = rw (take-nil k)
     go (suc at) (b ∷ m) = go at m
 
+-- where the next byte's place is written otherwise
+step_on : (k at next : ℕ) (m : List ℕ) → next ≡ at + 1 → number_at (suc k) at m ≡ get_or m at 0 + 256 * number_at k next m
+step_on k at next m e = rw e (number_step k at m)
+
 pub number_none : (at : ℕ) (m : List ℕ) → number_at 0 at m ≡ 0
 unfolding number_at part value
 number_none at m = refl
@@ -34,22 +39,43 @@ pub number_two : (at : ℕ) (m : List ℕ) → number_at 2 at m ≡ get_or m at 
 number_two at m = omega (arith, number_one (at + 1) m, number_step 1 at m)
 
 pub number_four : (at : ℕ) (m : List ℕ)
-    → number_at 4 at m ≡ get_or m at 0 + 256 * (get_or m (at + 1) 0 + 256 * (get_or m (at + 1 + 1) 0 + 256 * (get_or m (at + 1 + 1 + 1) 0)))
-number_four at m = omega (arith, number_two (at + 1 + 1) m, number_step 3 at m, number_step 2 (at + 1) m)
+    → number_at 4 at m ≡ get_or m at 0 + 256 * (get_or m (at + 1) 0 + 256 * (get_or m (at + 2) 0 + 256 * (get_or m (at + 3) 0)))
+number_four at m =
+    omega (arith, number_step 3 at m, step_on 2 (at + 1) (at + 2) m (omega arith), step_on 1 (at + 2) (at + 3) m (omega arith), number_one (at + 3) m)
 
 pub number_eight : (at : ℕ) (m : List ℕ)
-    → number_at 8 at m ≡ get_or m at 0 + 256 * (get_or m (at + 1) 0 + 256 * (get_or m (at + 1 + 1) 0 + 256 * (get_or m (at + 1 + 1 + 1) 0
-    + 256 * (get_or m (at + 1 + 1 + 1 + 1) 0 + 256 * (get_or m (at + 1 + 1 + 1 + 1 + 1) 0
-    + 256 * (get_or m (at + 1 + 1 + 1 + 1 + 1 + 1) 0 + 256 * (get_or m (at + 1 + 1 + 1 + 1 + 1 + 1 + 1) 0)))))))
+    → number_at 8 at m ≡ get_or m at 0 + 256 * (get_or m (at + 1) 0 + 256 * (get_or m (at + 2) 0 + 256 * (get_or m (at + 3) 0
+    + 256 * (get_or m (at + 4) 0 + 256 * (get_or m (at + 5) 0 + 256 * (get_or m (at + 6) 0 + 256 * (get_or m (at + 7) 0)))))))
 number_eight at m =
     omega (
       arith,
-      number_four (at + 1 + 1 + 1 + 1) m,
       number_step 7 at m,
-      number_step 6 (at + 1) m,
-      number_step 5 (at + 1 + 1) m,
-      number_step 4 (at + 1 + 1 + 1) m,
+      step_on 6 (at + 1) (at + 2) m (omega arith),
+      step_on 5 (at + 2) (at + 3) m (omega arith),
+      step_on 4 (at + 3) (at + 4) m (omega arith),
+      step_on 3 (at + 4) (at + 5) m (omega arith),
+      step_on 2 (at + 5) (at + 6) m (omega arith),
+      step_on 1 (at + 6) (at + 7) m (omega arith),
+      number_one (at + 7) m,
     )
+
+-- std's bytes of a number, from byte i on
+bytes_from : (k i x : ℕ) → bytes_low_first i k x ≡ bytes_of k (x / 256 ^ i)
+unfolding bytes_of
+bytes_from zero i x = refl
+bytes_from (suc k) zero x =
+    let one : x / 256 ^ 0 ≡ x = omega arith in
+    rw (one, bytes_from k 1 x) refl
+bytes_from (suc k) (suc i) x =
+    let step : x / 256 ^ suc i / 256 ≡ x / 256 ^ suc (suc i) =
+    div-div-eq-div-mul x (256 ^ suc i) 256 ∙ ap (λ (d : ℕ). x / d) (mul_comm (256 ^ suc i) 256 ∙ sym (pow-succ' 256 (suc i))) in
+    rw (step, bytes_from k (suc (suc i)) x) refl
+
+-- the lowest k bytes of a number put there
+pub put_low : (k at x : ℕ) (m : List ℕ) {f n : List ℕ} → n ≡ replaced at f m → f ≡ bytes_low_first 0 k x → n ≡ replaced at (bytes_of k x) m
+put_low k at x m put low =
+    let whole : x / 256 ^ 0 ≡ x = omega arith in
+    put ∙ ap (λ (g : List ℕ). replaced at g m) (low ∙ bytes_from k 0 x ∙ ap (bytes_of k) whole)
 
 pub bytes_of_length : (k x : ℕ) → length (bytes_of k x) ≡ k
 unfolding bytes_of
@@ -78,6 +104,11 @@ replaced_length at f m h = simp (length-append, length-take, length-drop) (omega
 pub sets_replaced : (at : ℕ) (f m : List ℕ) → at + length f ≤ length m → sets m at f ≡ replaced at f m
 unfolding replaced
 sets_replaced at f m h = sets-eq f m at h ∙ append_assoc (take at m) f (drop (at + length f) m)
+
+-- a part that was written through its slice
+pub put_replaced : (at k : ℕ) (f m : List ℕ) → length f ≡ k → put_mid at k m f ≡ replaced at f m
+unfolding replaced
+put_replaced at k f m e = rw (drop-drop k at m, e) refl
 
 -- one store more
 pub sets_snoc : (f m : List ℕ) (at b : ℕ) → sets m at (f ++ (b ∷ [])) ≡ set (sets m at f) (at + length f) b
@@ -131,18 +162,6 @@ module _ (m f : List ℕ) (at i : ℕ) {n : List ℕ} (stored : n ≡ sets m at 
 
   pub stored_all : length f ≤ i → at + length f ≤ length m → n ≡ replaced at f m
   stored_all end room = rw (stored, take_all i f end) (sets_replaced at f m room)
-
--- zeros stored from the front on
-module _ (m : List ℕ) (i : ℕ) {n : List ℕ} (stored : n ≡ sets m 0 (take i (replicate (length m) 0))) where
-  pub cleared_more : i < length m → set n i 0 ≡ sets m 0 (take (i + 1) (replicate (length m) 0))
-  cleared_more h =
-      rw (get_or-replicate {A = ℕ} (length m) i 0 0 h, zero-add i) at
-      (stored_more m (replicate (length m) 0) 0 i stored (omega (arith, length-replicate {A = ℕ} (length m) 0)))
-
-  pub cleared_all : length m ≤ i → n ≡ replicate (length m) 0
-  cleared_all end =
-      let long = length-replicate {A = ℕ} (length m) 0 in
-      stored_all m (replicate (length m) 0) 0 i stored (omega (arith, long)) (omega (arith, long)) ∙ replaced_whole _ m long
 
 pub value_bytes_of : (k x : ℕ) → value (bytes_of k x) ≡ x % 256 ^ k
 unfolding value bytes_of

@@ -1,4 +1,4 @@
--- Laws of `any`, `least`, `sum` and `fold`: what a loop over records has shown.
+-- Laws of `any_below`, `least`, `sum_below` and `fold`: what a loop over records has shown.
 -- Assumes nothing.
 use Rattle.std.proofs.Common.{◌≡◌, ℕ, zero, suc, ◌+◌, ◌<◌, ◌≤◌, Bool, true, false, ◌⊎◌, sym, refl, ap, ◌∙◌, inl, inr, ⊎_elim, suc-le-suc, zero-le, le_refl, le_of_suc-le-suc}
 use Rattle.std.proofs.Common.{not-suc-le-zero, add-one, arith}

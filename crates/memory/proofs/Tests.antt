@@ -1,6 +1,7 @@
 -- Small laws: an equation or none, `&&`, and a table's entries.
 -- Assumes nothing.
-use Rattle.std.proofs.Common.{◌≡◌, ℕ, zero, suc, ◌<◌, ◌≤◌, Bool, true, false, ◌&&◌, ◌||◌, ltb, ◌⊎◌, List, [], ◌∷◌, get_or, sym, refl, ◌∙◌, inl, inr, le_of_suc-le-suc, not-suc-le-zero, arith, ltb-true}
+use Rattle.std.proofs.Common.{◌≡◌, ℕ, zero, suc, ◌<◌, ◌≤◌, Bool, true, false, ◌&&◌, ◌||◌, ltb, ◌⊎◌}
+use Rattle.std.proofs.Common.{List, [], ◌∷◌, get_or, sym, refl, ◌∙◌, inl, inr, le_of_suc-le-suc, not-suc-le-zero, arith, ltb-true}
 use native.Mathlib.Decide.{dec_lt, ℕ_discrete}
 use Rattle.memory.specs.Bytes.{Bytes}
 use Rattle.memory.specs.Search.{pick}

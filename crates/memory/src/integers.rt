@@ -19,7 +19,7 @@ pub fn less_than(signed: bool, a: u32, b: u32) -> bool
 pub fn rank(signed: bool, v: u32) -> u32
     ensures { result ≡ rank signed v }
 {
-    std::num::wrapping_add_u32(v, if signed { FIRST_NEGATIVE } else { 0 })
+    v.wrapping_add(if signed { FIRST_NEGATIVE } else { 0 })
 }
 
 // A blank and the integer that a value means.

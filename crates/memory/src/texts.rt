@@ -1,10 +1,11 @@
-// Numbers in decimals, and the end of a line.
+// Numbers in decimals, and the end of a line. What is put takes the text and a place, and answers the place behind. A struct of both would
+// hold a `&mut`, could have no Model, and each clause would name both by a path.
 ghost use Rattle.std.specs.Prelude.{◌≡◌, ◌+◌, ◌/◌, ◌%◌, ◌<◌, ◌≤◌, [], ◌∷◌, length};
 ghost use Rattle.memory.specs.Texts.{line_feed, digit_of, decimal, number_field, Put};
 
-pub const BLANK: u8 = 32;
+pub const BLANK: u8 = b' ';
 
-const LINE_FEED: u8 = 10;
+const LINE_FEED: u8 = b'\n';
 
 // A blank and a number.
 pub fn put_number(out: &mut [u8], at: usize, n: u64) -> usize
@@ -30,13 +31,14 @@ pub fn put_decimal(out: &mut [u8], at: usize, n: u64) -> usize
     put_two(out, last, (n % 100) as u32)
 }
 
+// Two stores, and no `copy_from_slice` of an array of both: that is no shorter.
 fn put_two(out: &mut [u8], at: usize, d: u32) -> usize
     requires d_bound { d < 100 }
     requires at_in_bounds { at + 2 ≤ length out.old }
     ensures { Put at (digit_of (d / 10) ∷ digit_of (d % 10) ∷ []) out.old out.new result }
 {
-    out[at] = 48 + (d / 10) as u8;
-    out[at + 1] = 48 + (d % 10) as u8;
+    out[at] = b'0' + (d / 10) as u8;
+    out[at + 1] = b'0' + (d % 10) as u8;
     at + 2
 }
 
@@ -45,7 +47,7 @@ pub fn put_digit(out: &mut [u8], at: usize, d: u32) -> usize
     requires at_in_bounds { at < length out.old }
     ensures { Put at (digit_of d ∷ []) out.old out.new result }
 {
-    out[at] = 48 + d as u8;
+    out[at] = b'0' + d as u8;
     at + 1
 }
 

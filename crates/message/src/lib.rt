@@ -6,7 +6,7 @@ mod objects;
 
 pub use objects::{deliver, filter_sent, initialise, pack, unpack};
 
-// The marks of an object, added.
+// The marks of an object, added. The numbers are those that the C interface returns.
 pub const ARRIVED: u32 = 1;
 
 pub const SENT: u32 = 2;

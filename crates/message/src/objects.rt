@@ -14,14 +14,14 @@ use state::{ObjectState, SLOTS};
 use table::{NONE, ObjectNumber};
 
 // Delivers a value to a receive object.
+#[tactic(auto, unfolding(crate::specs::Objects::deliver))]
 pub fn deliver(m: &mut [u8], number: ObjectNumber, o: Object, v: u32)
     requires held { Held o.depth number.0 m.old }
     requires count_fits { CountFits o.filter (object_state m.old number.0).occurrence }
     ensures { m.new ≡ deliver o number.0 v m.old }
 {
     let s = state::object_state(m, number);
-    let f = o.filter;
-    let passed = filter::passes(o.signed, f, v, s.old, s.occurrence);
+    let passed = filter::passes(o.signed, o.filter, v, s.old, s.occurrence);
     queue::enqueue(
         m,
         passed & (s.count < o.depth),
@@ -39,13 +39,13 @@ pub fn filter_sent(m: &mut [u8], number: ObjectNumber, o: Object, v: u32) -> boo
     ensures row { m.new ≡ with_object_state m.old number.0 (after_filter result o v (object_state m.old number.0)) }
 {
     let s = state::object_state(m, number);
-    let f = o.filter;
-    let passed = filter::passes(o.signed, f, v, s.old, s.occurrence);
+    let passed = filter::passes(o.signed, o.filter, v, s.old, s.occurrence);
     state::set_object_state(m, number, after_filter(passed, o, v, s));
     passed
 }
 
-// Packs a value into the object's I-PDU, where it has one.
+// Packs a value into the object's I-PDU, where it has one. With none its number is `NONE`, as the definition of `config`'s `Object` has it.
+#[tactic(auto, unfolding(crate::specs::Objects::pack))]
 pub fn pack(m: &mut [u8], o: Object, v: u32)
     requires { Placed o m.old }
     ensures { m.new ≡ pack o v m.old }
@@ -54,29 +54,28 @@ pub fn pack(m: &mut [u8], o: Object, v: u32)
     if k == NONE {
         return;
     }
-    let order = o.order;
-    bits::pack_slot(m, SLOTS + 8 * (k as usize), order, o.at, o.size, v);
+    bits::pack_slot(m, SLOTS + 8 * (k as usize), o.order, o.at, o.size, v);
 }
 
 // The value that an object has in its I-PDU.
+#[tactic(auto, unfolding(crate::specs::Objects::unpack))]
 pub fn unpack(m: &[u8], o: Object) -> u32
     requires placed { Placed o m.now }
     requires ipdu_lt_most_ipdus { o.ipdu.0 < most_ipdus }
     ensures { result ≡ unpack o m.now }
 {
     let k = o.ipdu.0 as usize;
-    let order = o.order;
-    bits::unpack_slot(m, SLOTS + 8 * k, order, o.signed, o.at, o.size)
+    bits::unpack_slot(m, SLOTS + 8 * k, o.order, o.signed, o.at, o.size)
 }
 
 // Sets the value of an object, with no filter and no request.
+#[tactic(auto, unfolding(crate::specs::Objects::initialise))]
 pub fn initialise(m: &mut [u8], number: ObjectNumber, o: Object, v: u32)
     requires row_size_in_bounds { object_row number.0 + row_size ≤ length m.old }
     requires placed { Placed o m.old }
     ensures { m.new ≡ initialise o number.0 v m.old }
 {
-    let direction = o.direction;
-    match direction {
+    match o.direction {
         Direction::Send => initialise_send(m, number, o, v),
         Direction::Receive => initialise_receive(m, number, v),
     }
@@ -87,9 +86,8 @@ fn initialise_send(m: &mut [u8], number: ObjectNumber, o: Object, v: u32)
     requires placed { Placed o m.old }
     ensures { m.new ≡ initialise_as Send o number.0 v m.old }
 {
-    let mut s = state::object_state(m, number);
-    s.old = v;
-    state::set_object_state(m, number, s);
+    let s = state::object_state(m, number);
+    state::set_object_state(m, number, ObjectState { old: v, ..s });
     pack(m, o, v);
 }
 
@@ -97,49 +95,60 @@ fn initialise_receive(m: &mut [u8], number: ObjectNumber, v: u32)
     requires { object_row number.0 + row_size ≤ length m.old }
     ensures { m.new ≡ with_object_state m.old number.0 (with_old v (with_value v (with_queue 0 0 0 (object_state m.old number.0)))) }
 {
-    let mut s = state::object_state(m, number);
-    s.old = v;
-    s.value = v;
-    s.overflow = 0;
-    s.head = 0;
-    s.count = 0;
-    state::set_object_state(m, number, s);
+    let s = state::object_state(m, number);
+    let next = ObjectState {
+        old: v,
+        value: v,
+        overflow: 0,
+        head: 0,
+        count: 0,
+        ..s
+    };
+    state::set_object_state(m, number, next);
 }
 
 // The numbers of an object after a filtering.
+#[tactic(auto, unfolding(crate::specs::Objects::after_filter))]
 fn after_filter(passed: bool, o: Object, v: u32, s: ObjectState) -> ObjectState
     requires { CountFits o.filter s.occurrence }
     ensures { result ≡ after_filter passed o v s }
 {
-    let mut counted = s;
-    let f = o.filter;
-    counted.occurrence = filter::next_count(f, s.occurrence);
-    if !passed {
-        return counted;
+    let counted = ObjectState {
+        occurrence: filter::next_count(o.filter, s.occurrence),
+        ..s
+    };
+    if passed {
+        ObjectState { old: v, ..counted }
+    } else {
+        counted
     }
-    counted.old = v;
-    counted
 }
 
 // The numbers of an object after a delivery.
+#[tactic(auto, unfolding(crate::specs::Objects::delivered, crate::specs::Objects::marked))]
 fn delivered(passed: bool, o: Object, v: u32, s: ObjectState) -> ObjectState
     requires { CountFits o.filter s.occurrence }
     ensures { result ≡ delivered passed o v s }
 {
-    let mut next = after_filter(passed, o, v, s);
+    let next = after_filter(passed, o, v, s);
     if !passed {
-        return next;
+        next
+    } else if o.depth == 0 {
+        ObjectState {
+            value: v,
+            marks: next.marks | ARRIVED,
+            ..next
+        }
+    } else if next.count < o.depth {
+        ObjectState {
+            count: next.count + 1,
+            marks: next.marks | ARRIVED,
+            ..next
+        }
+    } else {
+        ObjectState {
+            overflow: 1,
+            ..next
+        }
     }
-    if o.depth == 0 {
-        next.value = v;
-        next.marks = next.marks | ARRIVED;
-        return next;
-    }
-    if next.count < o.depth {
-        next.count = next.count + 1;
-        next.marks = next.marks | ARRIVED;
-        return next;
-    }
-    next.overflow = 1;
-    next
 }

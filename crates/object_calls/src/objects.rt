@@ -6,7 +6,7 @@ ghost use Rattle.queue.specs.Queues.{Held};
 ghost use Rattle.calls.specs.Answers.{outcome};
 ghost use Rattle.calls.specs.Calls.{initialise_in, limited, receive_of, receive_queued, receive_in, status_of, status_in, marks_in, clear_marks_in};
 
-use calls::Answer;
+use calls::{Answer, Refusal, Success};
 use state::ObjectState;
 use table::{Counts, ObjectNumber, RECEIVING};
 
@@ -16,15 +16,14 @@ pub fn receive(t: &[u8], c: Counts, m: &mut [u8], number: ObjectNumber) -> Answe
     ensures { outcome result m.new [] ≡ receive_in t.now c number.0 m.old }
 {
     if !calls::is_object(t, c, RECEIVING, number) {
-        return Answer::WrongId;
+        return Err(Refusal::WrongId);
     }
     let r = table::object_record(t, c.ipdus, number);
-    let depth = r.depth;
-    if depth == 0 {
+    if r.depth == 0 {
         let s = state::object_state(m, number);
-        return Answer::Done(s.value);
+        return Ok(Success::Done(s.value));
     }
-    receive_queued(m, number, depth)
+    receive_queued(m, number, r.depth)
 }
 
 fn receive_queued(m: &mut [u8], number: ObjectNumber, depth: u32) -> Answer
@@ -33,7 +32,7 @@ fn receive_queued(m: &mut [u8], number: ObjectNumber, depth: u32) -> Answer
 {
     let s = state::object_state(m, number);
     if s.count == 0 {
-        return Answer::NoMessage;
+        return Err(Refusal::NoMessage);
     }
     let v = queue::oldest(m, number, depth);
     queue::dequeue(m, number, depth);
@@ -45,9 +44,9 @@ fn limited(s: ObjectState, v: u32) -> Answer
     ensures { result ≡ limited s v }
 {
     if s.overflow == 0 {
-        Answer::Done(v)
+        Ok(Success::Done(v))
     } else {
-        Answer::Limit(v)
+        Ok(Success::Limit(v))
     }
 }
 
@@ -57,11 +56,11 @@ pub fn status(t: &[u8], c: Counts, m: &[u8], number: ObjectNumber) -> Answer
     ensures { outcome result m.now [] ≡ status_in t.now c number.0 m.now }
 {
     if !calls::is_object(t, c, RECEIVING, number) {
-        return Answer::WrongId;
+        return Err(Refusal::WrongId);
     }
     let r = table::object_record(t, c.ipdus, number);
     if r.depth == 0 {
-        return Answer::WrongId;
+        return Err(Refusal::WrongId);
     }
     status_of(state::object_state(m, number))
 }
@@ -70,7 +69,7 @@ fn status_of(s: ObjectState) -> Answer
     ensures { result ≡ status_of s }
 {
     if s.count == 0 {
-        return Answer::NoMessage;
+        return Err(Refusal::NoMessage);
     }
     limited(s, 0)
 }
@@ -80,12 +79,11 @@ pub fn marks(t: &[u8], c: Counts, m: &[u8], number: ObjectNumber) -> Answer
     requires { Ready t.now c m.now }
     ensures { outcome result m.now [] ≡ marks_in c number.0 m.now }
 {
-    let n = c.objects;
-    if n <= number.0 {
-        return Answer::WrongId;
+    if c.objects <= number.0 {
+        return Err(Refusal::WrongId);
     }
     let s = state::object_state(m, number);
-    Answer::Done(s.marks)
+    Ok(Success::Done(s.marks))
 }
 
 // Clears the marks of an object.
@@ -93,14 +91,12 @@ pub fn clear_marks(t: &[u8], c: Counts, m: &mut [u8], number: ObjectNumber) -> A
     requires { Ready t.now c m.old }
     ensures { outcome result m.new [] ≡ clear_marks_in c number.0 m.old }
 {
-    let n = c.objects;
-    if n <= number.0 {
-        return Answer::WrongId;
+    if c.objects <= number.0 {
+        return Err(Refusal::WrongId);
     }
-    let mut s = state::object_state(m, number);
-    s.marks = 0;
-    state::set_object_state(m, number, s);
-    Answer::Done(0)
+    let s = state::object_state(m, number);
+    state::set_object_state(m, number, ObjectState { marks: 0, ..s });
+    Ok(Success::Done(0))
 }
 
 // Sets the value of an object, with no filter and no request.
@@ -108,10 +104,9 @@ pub fn initialise(t: &[u8], c: Counts, m: &mut [u8], number: ObjectNumber, v: u3
     requires { Ready t.now c m.old }
     ensures { outcome result m.new [] ≡ initialise_in t.now c number.0 v m.old }
 {
-    let n = c.objects;
-    if n <= number.0 {
-        return Answer::WrongId;
+    if c.objects <= number.0 {
+        return Err(Refusal::WrongId);
     }
     message::initialise(m, number, config::decode_object(t, c.ipdus, number), v);
-    Answer::Done(0)
+    Ok(Success::Done(0))
 }

@@ -1,5 +1,5 @@
 // Worked examples, as the library answers them: messages packed and unpacked, places with and without room, and signed messages.
-use bits::{BitSize, ByteLength, Order, Packing, Unpacking};
+use bits::{BitSize, ByteLength, NoPlace, Order};
 use std::io;
 
 pub(crate) fn print_all(rt: &impl Print) -> io::Result<()> {
@@ -20,24 +20,19 @@ pub(crate) fn print_all(rt: &impl Print) -> io::Result<()> {
 // A message in all four bytes of a frame, unpacked as signed under either order.
 fn signed(rt: &impl Print, size: u32, value: u32) -> io::Result<()> {
     print!(rt; "signed {size} bits {value:x}:")?;
-    unpacked_as_signed(rt, Order::Little, 0, size, value)?;
-    unpacked_as_signed(rt, Order::Big, 24, size, value)?;
+    for (order, start) in [(Order::Little, 0), (Order::Big, 24)] {
+        match unpacked_as_signed(order, start, BitSize(size), value) {
+            Ok(back) => print!(rt; " {back:08x}")?,
+            Err(_) => print!(rt; " refused")?,
+        }
+    }
     println!(rt; "")
 }
 
-fn unpacked_as_signed(
-    rt: &impl Print,
-    order: Order,
-    start: u32,
-    size: u32,
-    value: u32,
-) -> io::Result<()> {
+fn unpacked_as_signed(order: Order, start: u32, size: BitSize, value: u32) -> Result<u32, NoPlace> {
     let mut frame = [0u8; 4];
-    bits::pack(&mut frame, order, start, BitSize(size), value);
-    match bits::unpack(&frame, order, true, start, BitSize(size)) {
-        Unpacking::Value(back) => print!(rt; " {back:08x}"),
-        Unpacking::Refused => print!(rt; " refused"),
-    }
+    bits::pack(&mut frame, order, start, size, value)?;
+    bits::unpack(&frame, order, true, start, size)
 }
 
 // Twelve bits in four zero bytes: the frame, and what unpacks from it.
@@ -45,12 +40,12 @@ fn packed(rt: &impl Print, case: u32, order: Order, start: u32, value: u32) -> i
     let mut frame = [0u8; 4];
     print!(rt; "case {case}: ")?;
     match bits::pack(&mut frame, order, start, BitSize(12), value) {
-        Packing::Packed => print_frame(rt, &frame)?,
-        Packing::Refused => print!(rt; "refused")?,
+        Ok(()) => print_frame(rt, &frame)?,
+        Err(_) => print!(rt; "refused")?,
     }
     match bits::unpack(&frame, order, false, start, BitSize(12)) {
-        Unpacking::Value(back) => println!(rt; " unpacks to {back}"),
-        Unpacking::Refused => println!(rt; "refused"),
+        Ok(back) => println!(rt; " unpacks to {back}"),
+        Err(_) => println!(rt; "refused"),
     }
 }
 

@@ -3,11 +3,14 @@
 #![tactic(auto)]
 
 mod cases;
+mod digest;
 mod pairs;
 mod sweep;
 
 use bits::Order;
 use std::io;
+
+const ORDERS: [Order; 2] = [Order::Little, Order::Big];
 
 // What can't be written is lost, with all that comes behind it.
 fn main(rt: HostRuntime) {
@@ -17,8 +20,9 @@ fn main(rt: HostRuntime) {
 fn print_all(rt: &impl Print) -> io::Result<()> {
     cases::print_all(rt)?;
     for length in 0..10 {
-        sweep::print(rt, length, Order::Little)?;
-        sweep::print(rt, length, Order::Big)?;
+        for order in ORDERS {
+            sweep::print(rt, length, order)?;
+        }
     }
     pairs::print(rt)
 }

@@ -12,6 +12,7 @@ use state::{ObjectState, QUEUES};
 use table::ObjectNumber;
 
 // The oldest value of a queue.
+#[tactic(auto, unfolding(crate::specs::Queues::oldest))]
 pub fn oldest(m: &[u8], number: ObjectNumber, depth: u32) -> u32
     requires { Held depth number.0 m.now }
     ensures { result ≡ oldest depth number.0 m.now }
@@ -21,16 +22,19 @@ pub fn oldest(m: &[u8], number: ObjectNumber, depth: u32) -> u32
 }
 
 // Removes the oldest value of a queue that has one, and clears overflow.
+#[tactic(auto, unfolding(crate::specs::Queues::dequeue))]
 pub fn dequeue(m: &mut [u8], number: ObjectNumber, depth: u32)
     requires held { Held depth number.0 m.old }
     requires count_nonzero { 0 < (object_state m.old number.0).count }
     ensures { m.new ≡ dequeue depth number.0 m.old }
 {
     let s = state::object_state(m, number);
-    let mut next = s;
-    next.overflow = 0;
-    next.head = around(depth, s.head + 1);
-    next.count = s.count - 1;
+    let next = ObjectState {
+        overflow: 0,
+        head: around(depth, s.head + 1),
+        count: s.count - 1,
+        ..s
+    };
     state::set_object_state(m, number, next);
 }
 
@@ -39,10 +43,9 @@ pub fn enqueue(m: &mut [u8], enters: bool, at: usize, v: u32)
     requires { at + 4 ≤ length m.old }
     ensures { m.new ≡ pick enters (replaced at (bytes_of 4 v) m.old) m.old }
 {
-    if !enters {
-        return;
+    if enters {
+        memory::write32(m, at, v);
     }
-    memory::write32(m, at, v);
 }
 
 // The byte where the value behind the `n` oldest ones stands.
@@ -58,8 +61,5 @@ pub fn place_at(depth: u32, s: ObjectState, n: u32) -> usize
 fn around(depth: u32, p: u32) -> u32
     ensures { result ≡ around depth p }
 {
-    if p < depth {
-        return p;
-    }
-    p - depth
+    if p < depth { p } else { p - depth }
 }

@@ -1,4 +1,3 @@
 pub mod RowReads
-pub mod IpduRanges
 pub mod ObjectRanges
 pub mod ObjectWords

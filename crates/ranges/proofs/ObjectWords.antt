@@ -147,7 +147,7 @@ module _ (m : List ℕ) (bs : Bytes m) (i : ℕ) {x : ℕ} (read : x ≡ number_
 
     pub used_decides : {b : Bool} → bit_and x 18446462598749548544 ≡ q → b ≡ used_in_range r (object_state m i)
         → b ≡ object_in_range r (q / queue_unit) (object_state m i)
-    unfolding object_in_range used_in_range object_state
+    unfolding object_in_range object_state
     used_decides fits e =
         let halves =
         split_48 (4096 * (number_at 1 (object_row i + 9) m / 16) + 131072 * (number_at 1 (object_row i + 10) m / 2)) (number_at 2 (object_row i + 14) m) (q / queue_unit)

@@ -2,7 +2,7 @@
 // range first asks for it.
 #![tactic(auto)]
 
-ghost use Rattle.std.specs.Prelude.{not, ◌≡◌, ◌-◌, ◌/◌, ◌%◌, ◌≤◌, ◌<◌, max, leb, length};
+ghost use Rattle.std.specs.Prelude.{not, ◌≡◌, ◌/◌, ◌%◌, ◌≤◌, ◌<◌, length};
 ghost use Rattle.memory.specs.Search.{any_below};
 ghost use Rattle.table.specs.Records.{most_ipdus, ipdu_record, object_record};
 ghost use Rattle.table.specs.Check.{Shape, Right};
@@ -24,18 +24,13 @@ const FIXED: u64 = 0xFFFF_0000_00FE_F000;
 const QUEUE_UNIT: u64 = 0x0001_0000_0000_0000;
 
 // Whether working memory holds numbers that calls over this table may meet.
+#[tactic(auto, unfolding(state::specs::Ranges::in_range, state::specs::Layout::running_at))]
 pub fn in_range(t: &[u8], c: Counts, m: &[u8]) -> bool
     requires right { Right t.now c }
     requires memory_size_in_bounds { memory_size ≤ length m.now }
     ensures { result ≡ in_range t.now c m.now }
 {
-    if 1 < memory::read8(m, RUNNING) {
-        return false;
-    }
-    if !ipdus_in_range(t, c, m) {
-        return false;
-    }
-    objects_in_range(t, c, m)
+    memory::read8(m, RUNNING) <= 1 && ipdus_in_range(t, c, m) && objects_in_range(t, c, m)
 }
 
 fn ipdus_in_range(t: &[u8], c: Counts, m: &[u8]) -> bool
@@ -43,13 +38,10 @@ fn ipdus_in_range(t: &[u8], c: Counts, m: &[u8]) -> bool
     requires memory_size_in_bounds { memory_size ≤ length m.now }
     ensures { result ≡ not (any_below c.ipdus (ipdu_out t.now m.now)) }
 {
-    let n = c.ipdus;
-    let mut k = 0;
-    while k < n {
+    for k in 0..c.ipdus {
         if !ipdu_in_range(t, c, m, IpduNumber(k)) {
             return false;
         }
-        k += 1;
     }
     true
 }
@@ -59,22 +51,19 @@ fn objects_in_range(t: &[u8], c: Counts, m: &[u8]) -> bool
     requires memory_size_in_bounds { memory_size ≤ length m.now }
     ensures { result ≡ not (any_below c.objects (object_out t.now c m.now)) }
 {
-    let n = c.ipdus as usize;
-    let end = c.objects;
+    let objects = HEADER_SIZE + IPDU_SIZE * (c.ipdus as usize);
     let mut queue = 0;
-    let mut i = 0;
-    while i < end {
-        let a = HEADER_SIZE + IPDU_SIZE * n + OBJECT_SIZE * (i as usize);
-        let depth = memory::read8(t, a + 7);
+    for i in 0..c.objects {
+        let depth = memory::read8(t, objects + OBJECT_SIZE * (i as usize) + 7);
         if !object_in_range(t, c, m, ObjectNumber(i), depth, queue) {
             return false;
         }
         queue += QUEUE_UNIT * (depth as u64);
-        i += 1;
     }
     true
 }
 
+#[tactic(auto, unfolding(state::specs::Ranges::ipdu_in_range, config::specs::Decode::ipdu_of, table::specs::Records::ipdu_record))]
 fn ipdu_in_range(t: &[u8], c: Counts, m: &[u8], number: IpduNumber) -> bool
     requires shape { Shape t.now c }
     requires memory_size_in_bounds { (memory_size ≤ length m.now) × (number.0 < c.ipdus) }
@@ -82,18 +71,14 @@ fn ipdu_in_range(t: &[u8], c: Counts, m: &[u8], number: IpduNumber) -> bool
 {
     let i = number.0 as usize;
     if memory::read8(t, HEADER_SIZE + IPDU_SIZE * i) == SENDING {
-        if !request_in_range(t, c, m, number) {
-            return false;
-        }
-        return period_in_range(t, c, m, number);
+        request_in_range(t, c, m, number) && period_in_range(t, c, m, number)
+    } else {
+        nothing_sent(m, number) && timer_in_range(t, c, m, number)
     }
-    if !nothing_sent(m, number) {
-        return false;
-    }
-    timer_in_range(t, c, m, number)
 }
 
 // Of a send I-PDU: the flags of a request, the delay, the deadline, and no timer.
+#[tactic(auto, unfolding(config::specs::Decode::ipdu_of, table::specs::Records::ipdu_record, state::specs::Layout::ipdu_state))]
 fn request_in_range(t: &[u8], c: Counts, m: &[u8], number: IpduNumber) -> bool
     requires shape { Shape t.now c }
     requires memory_size_in_bounds { (memory_size ≤ length m.now) × (number.0 < c.ipdus) }
@@ -102,22 +87,15 @@ fn request_in_range(t: &[u8], c: Counts, m: &[u8], number: IpduNumber) -> bool
     let i = number.0 as usize;
     let a = HEADER_SIZE + IPDU_SIZE * i;
     let row = IPDU_ROWS + 16 * i;
-    if 1 < memory::read8(m, row) {
-        return false;
-    }
-    if 1 < memory::read8(m, row + 1) {
-        return false;
-    }
-    if memory::read16(t, a + 8) < memory::read16(m, row + 4) {
-        return false;
-    }
-    if memory::read16(t, a + 10) < memory::read16(m, row + 6) {
-        return false;
-    }
-    memory::read16(m, row + 10) == 0
+    memory::read8(m, row) <= 1
+        && memory::read8(m, row + 1) <= 1
+        && memory::read16(m, row + 4) <= memory::read16(t, a + 8)
+        && memory::read16(m, row + 6) <= memory::read16(t, a + 10)
+        && memory::read16(m, row + 10) == 0
 }
 
 // Of a send I-PDU: the period.
+#[tactic(auto, unfolding(config::specs::Decode::ipdu_of, table::specs::Records::ipdu_record, state::specs::Layout::ipdu_state))]
 fn period_in_range(t: &[u8], c: Counts, m: &[u8], number: IpduNumber) -> bool
     requires shape { Shape t.now c }
     requires memory_size_in_bounds { (memory_size ≤ length m.now) × (number.0 < c.ipdus) }
@@ -131,7 +109,7 @@ fn period_in_range(t: &[u8], c: Counts, m: &[u8], number: IpduNumber) -> bool
     if (running == 0) & (countdown == 0) {
         return true;
     }
-    let longest = larger(memory::read16(t, a + 4), memory::read16(t, a + 6));
+    let longest = memory::read16(t, a + 4).max(memory::read16(t, a + 6));
     (running <= 1) & (running <= longest) & (countdown <= longest)
 }
 
@@ -141,19 +119,14 @@ fn nothing_sent(m: &[u8], number: IpduNumber) -> bool
     ensures { result ≡ nothing_sent (ipdu_state m.now number.0) }
 {
     let row = IPDU_ROWS + 16 * (number.0 as usize);
-    if memory::read16(m, row) != 0 {
-        return false;
-    }
-    if memory::read8(m, row + 2) != 0 {
-        return false;
-    }
-    if memory::read32(m, row + 4) != 0 {
-        return false;
-    }
-    memory::read16(m, row + 8) == 0
+    memory::read16(m, row) == 0
+        && memory::read8(m, row + 2) == 0
+        && memory::read32(m, row + 4) == 0
+        && memory::read16(m, row + 8) == 0
 }
 
 // Of a receive I-PDU: the timer.
+#[tactic(auto, unfolding(config::specs::Decode::ipdu_of, table::specs::Records::ipdu_record, state::specs::Layout::ipdu_state))]
 fn timer_in_range(t: &[u8], c: Counts, m: &[u8], number: IpduNumber) -> bool
     requires shape { Shape t.now c }
     requires memory_size_in_bounds { (memory_size ≤ length m.now) × (number.0 < c.ipdus) }
@@ -162,10 +135,7 @@ fn timer_in_range(t: &[u8], c: Counts, m: &[u8], number: IpduNumber) -> bool
     let i = number.0 as usize;
     let a = HEADER_SIZE + IPDU_SIZE * i;
     let timer = memory::read16(m, IPDU_ROWS + 16 * i + 10);
-    if timer <= memory::read16(t, a + 10) {
-        return true;
-    }
-    timer <= memory::read16(t, a + 12)
+    timer <= memory::read16(t, a + 10) || timer <= memory::read16(t, a + 12)
 }
 
 // `queue` is where its queue begins, as a word of the row has it. One comparison decides where the queue is empty at its first
@@ -183,50 +153,24 @@ fn object_in_range(
     ensures { result ≡ object_in_range (object_record t.now c.ipdus number.0) (queue / queue_unit) (object_state m.now number.0) }
 {
     let x = memory::read64(m, OBJECT_ROWS + 16 * (number.0 as usize) + 8);
-    let used = x & EMPTY;
-    if used == queue {
-        return true;
-    }
-    let fixed = x & FIXED;
-    if fixed != queue {
-        return false;
-    }
-    used_in_range(t, c, m, number, depth)
+    x & EMPTY == queue || x & FIXED == queue && used_in_range(t, c, m, number, depth)
 }
 
 // The queue's place and count, and the occurrence.
+#[tactic(auto, unfolding(table::specs::Records::object_record, state::specs::Layout::object_state))]
 fn used_in_range(t: &[u8], c: Counts, m: &[u8], number: ObjectNumber, depth: u32) -> bool
     requires shape { Shape t.now c }
     requires memory_size_in_bounds { (memory_size ≤ length m.now) × (number.0 < c.objects) × (depth ≡ (object_record t.now c.ipdus number.0).depth) }
     ensures { result ≡ used_in_range (object_record t.now c.ipdus number.0) (object_state m.now number.0) }
 {
     let row = OBJECT_ROWS + 16 * (number.0 as usize);
-    if depth < memory::read8(m, row + 12) {
-        return false;
-    }
-    if !head_in_range(depth, memory::read8(m, row + 11)) {
-        return false;
-    }
     let a = HEADER_SIZE + IPDU_SIZE * (c.ipdus as usize) + OBJECT_SIZE * (number.0 as usize);
-    filter::count_in_range(
-        memory::read8(t, a + 8),
-        memory::read32(t, a + 16),
-        memory::read32(t, a + 20),
-        memory::read8(m, row + 8) as u8,
-    )
-}
-
-fn head_in_range(depth: u32, head: u32) -> bool
-    ensures { result ≡ leb head (depth - 1) }
-{
-    if head == 0 {
-        return true;
-    }
-    head < depth
-}
-
-fn larger(a: u32, b: u32) -> u32
-    ensures { result ≡ max a b }
-{
-    if a <= b { b } else { a }
+    memory::read8(m, row + 12) <= depth
+        && memory::read8(m, row + 11) <= depth.saturating_sub(1)
+        && filter::count_in_range(
+            memory::read8(t, a + 8),
+            memory::read32(t, a + 16),
+            memory::read32(t, a + 20),
+            memory::read8(m, row + 8) as u8,
+        )
 }

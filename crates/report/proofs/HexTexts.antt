@@ -37,7 +37,3 @@ hex_more at from i all a b bs m n low room so_far high_digit low_digit =
     let digits : hex (part from (i + 1) bs) ≡ hex (part from i bs) ++ a ∷ b ∷ [] =
     rw (part_more from i bs (omega (arith, low, room)), hex_append (part from i bs) (get_or bs (from + i) 0 ∷ []), high_digit, low_digit) in
     rw digits (put_as (put_append so_far (put_byte {b = a} {m = n} (put_one (at + 2 * i + 1) b _))) refl (omega arith))
-
-pub hex_all : (at from i n : ℕ) (bs m p : List ℕ) → i ≤ n → n ≤ i → Put at (hex (part from i bs)) m p (at + 2 * i)
-    → Put at (hex (part from n bs)) m p (at + 2 * n)
-hex_all at from i n bs m p most least put = let all : i ≡ n = omega arith in rw all at put

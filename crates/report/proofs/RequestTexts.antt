@@ -17,8 +17,7 @@ use Rattle.table.specs.Records.{ipdu_record}
 use Rattle.table.specs.Check.{Right}
 use Rattle.table.proofs.Facts.{ipdu_facts}
 use Rattle.script.specs.Text.{hex}
-use Rattle.report.specs.Printing.{InTable, request_text, request_texts}
-use Rattle.report.proofs.Puts.{put_four, with_four, four_length}
+use Rattle.report.specs.Printing.{InTable, req_name, request_text, request_texts}
 use Rattle.report.proofs.HexTexts.{hex_part_length}
 
 -- ---- an I-PDU of the table
@@ -44,24 +43,23 @@ request_length t k area there =
       hex_part_length (8 * k) (ipdu_record t k).length area,
     ))
 
--- ` req`, whose codes are 32, 114, 101 and 113, and the number; then a blank and the bytes
-module _ (t : List ℕ) (k at : ℕ) (m : List ℕ) (there : InTable t k) (room : at + 24 ≤ length m) where
-  pub number_room : at + 4 + 1 + length (decimal k) ≤ length (with_four at 32 114 101 113 m)
-  number_room = omega (arith, decimal_within 1 k (omega (arith, there.number)), four_length at 32 114 101 113 m, room)
+-- ` req` and the number; then a blank and the bytes
+module _ (t : List ℕ) (k at : ℕ) {behind : ℕ} {m n : List ℕ} (there : InTable t k) (room : at + 24 ≤ length m) (name : Put at req_name m n behind) where
+  pub number_room : behind + 1 + length (decimal k) ≤ length n
+  number_room = omega (arith, decimal_within 1 k (omega (arith, there.number)), name.behind, put_length name, room)
 
-  pub number_behind : {e : ℕ} {n : List ℕ} → Put (at + 4) (number_field k) (with_four at 32 114 101 113 m) n e
-      → (e + 17 ≤ length m) × (length n ≡ length m)
+  pub number_behind : {e : ℕ} {p : List ℕ} → Put behind (number_field k) n p e → (e + 17 ≤ length m) × (length p ≡ length m)
   number_behind put =
-      (omega (arith, put.behind, decimal_within 1 k (omega (arith, there.number)), room), put_length put ∙ four_length at 32 114 101 113 m)
+      (omega (arith, put.behind, name.behind, decimal_within 1 k (omega (arith, there.number)), room), put_length put ∙ put_length name)
 
 pub record_few : (t : List ℕ) (k : ℕ) {r : IpduRecord} → InTable t k → r ≡ ipdu_record t k → r.length ≤ 8
 record_few t k there same = rw same there.few
 
-pub request_put : (t area : List ℕ) (k at : ℕ) {e f : ℕ} (m n : List ℕ) {p : List ℕ} (r : IpduRecord) → r ≡ ipdu_record t k
-    → Put (at + 4) (number_field k) (with_four at 32 114 101 113 m) n e → Put (e + 1) (hex (part (8 * k) r.length area)) (set n e 32) p f
-    → Put at (request_text t k area) m p f
+pub request_put : (t area : List ℕ) (k at : ℕ) {behind e f : ℕ} (m n p : List ℕ) {q : List ℕ} (r : IpduRecord) → r ≡ ipdu_record t k
+    → Put at req_name m n behind → Put behind (number_field k) n p e → Put (e + 1) (hex (part (8 * k) r.length area)) (set p e 32) q f
+    → Put at (request_text t k area) m q f
 unfolding request_text
-request_put t area k at m n r same put rest = put_append (put_four put) (put_byte (rw same at rest))
+request_put t area k at m n p r same name put rest = put_append name (put_append put (put_byte (rw same at rest)))
 
 -- where the lowest bit of a word names it, and where not
 module _ (rest at : ℕ) (text m : List ℕ) where

@@ -9,7 +9,7 @@ use Rattle.table.specs.Records.{counts}
 use Rattle.table.specs.Check.{Right}
 use Rattle.config.specs.Decode.{is_signed}
 use Rattle.state.specs.Layout.{area_size}
-use Rattle.calls.specs.declared.Answer.{Answer}
+use Rattle.calls.specs.Answers.{Answer}
 use Rattle.calls.specs.Answers.{number_of, value_of}
 use Rattle.script.specs.declared.Ask.TheVariants.{Receive, Status, Marks, ClearMarks}
 use Rattle.script.specs.declared.Command.{Command}

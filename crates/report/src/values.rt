@@ -16,15 +16,9 @@ pub(crate) fn shown(t: &[u8], c: Counts, command: Command, answer: Answer) -> Sh
     ensures { result ≡ shown t.now command answer }
 {
     match command {
-        Command::Start => Shown::StatusAlone,
-        Command::Stop => Shown::StatusAlone,
-        Command::Send(_, _) => Shown::Requests(calls::value_of(answer)),
-        Command::Initialise(_, _) => Shown::StatusAlone,
+        Command::Send(_, _) | Command::Tick => Shown::Requests(calls::value_of(answer)),
         Command::Object(ask, i) => shown_of_object(ask, config::is_signed(t, c, i), answer),
-        Command::Periodic(_) => Shown::StatusAlone,
-        Command::Indication(_, _) => Shown::StatusAlone,
-        Command::Confirm(_, _) => Shown::StatusAlone,
-        Command::Tick => Shown::Requests(calls::value_of(answer)),
+        _ => Shown::StatusAlone,
     }
 }
 
@@ -55,10 +49,7 @@ pub(crate) fn put_value(out: &mut [u8], at: usize, signed: bool, v: u32) -> usiz
     requires { at + 26 ≤ length out.old }
     ensures { Put at ((val_name ++ integer_field (integer signed v)) ++ line_feed ∷ []) out.old out.new result }
 {
-    out[at] = memory::BLANK;
-    out[at + 1] = b'v';
-    out[at + 2] = b'a';
-    out[at + 3] = b'l';
-    let end = memory::put_integer(out, at + 4, signed, v);
+    let behind = super::put_text(out, at, b" val");
+    let end = memory::put_integer(out, behind, signed, v);
     memory::put_line_feed(out, end)
 }

@@ -1,6 +1,6 @@
 -- The few numbers that are kept of a line stand for its fields: they read as the same command, with the same bytes.
 -- Assumes nothing.
-use Rattle.std.proofs.Common.{◌≡◌, ℕ, suc, ◌<◌, ◌≤◌, Bool, true, false, eqb, List, [], ◌∷◌, ◌++◌, length, refl, ap, ap₂, ⊎_elim, zero-lt-suc, arith}
+use Rattle.std.proofs.Common.{◌≡◌, ℕ, suc, ◌<◌, ◌≤◌, Bool, true, false, eqb, List, [], ◌∷◌, ◌++◌, length, refl, ap, ap₂, ⊎_elim, zero-lt-suc, arith, Some}
 use mathlib.Core.Path.{fun_ext}
 use Rattle.memory.proofs.Tests.{true_or_false}
 use Rattle.memory.specs.Bytes.{Bytes}
@@ -17,7 +17,6 @@ use Rattle.script.specs.declared.Name.{Name}
 use Rattle.script.specs.declared.Numeral.TheVariants.{Nothing}
 use Rattle.script.specs.declared.Reader.{Reader}
 use Rattle.script.specs.declared.Reader.TheVariants.{Naming, First, Second, TooMany}
-use Rattle.script.specs.declared.Reading.TheVariants.{Readable}
 use Rattle.script.specs.Reader.{with_letter, no_name, name_from, is_named, no_digits, hex_with, hex_from, next, fresh, next_from, command_of, frame_as, frame_of, frame_bytes}
 use Rattle.script.specs.Reading.{Fields, one, two, three, four, too_many, into, fields_from, fields_of, numeral, is_bytes, alone, of_object, of_two, of_negative, of_bytes}
 use Rattle.script.specs.Reading.{if_integer, if_number, same, reading, read_line, bytes_in}
@@ -144,12 +143,12 @@ unfolding frame_bytes
 no_bytes = down_none 0
 
 -- as long as there are at most eight; nine stand for any longer ones
-module _ (line : List ℕ) {c : Command} (reads : read_line line ≡ Readable c) where
+module _ (line : List ℕ) {c : Command} (reads : read_line line ≡ Some c) where
   pub frame_reads : length (bytes_in (fields_of line)) ≤ 8 → frame_bytes (frame_of (next_from fresh line)) ≡ bytes_in (fields_of line)
   unfolding frame_of
   frame_reads short = rw (reader_of line) (go (fields_of line) reads short)
     where
-      go : (f : Fields) → reading f ≡ Readable c → length (bytes_in f) ≤ 8 → frame_bytes (frame_of (reader f)) ≡ bytes_in f
+      go : (f : Fields) → reading f ≡ Some c → length (bytes_in f) ≤ 8 → frame_bytes (frame_of (reader f)) ≡ bytes_in f
       go (one n) e h = no_bytes
       go (two n f) e h = no_bytes
       go (three n f s) e h = no_bytes
@@ -160,7 +159,7 @@ module _ (line : List ℕ) {c : Command} (reads : read_line line ≡ Readable c)
   unfolding frame_of
   frame_too_long long = rw (reader_of line) (go (fields_of line) reads long)
     where
-      go : (f : Fields) → reading f ≡ Readable c → 8 < length (bytes_in f) → 8 < length (frame_bytes (frame_of (reader f)))
+      go : (f : Fields) → reading f ≡ Some c → 8 < length (bytes_in f) → 8 < length (frame_bytes (frame_of (reader f)))
       go (one n) e h = absurd (omega arith)
       go (two n f) e h = absurd (omega arith)
       go (three n f s) e h = absurd (omega arith)

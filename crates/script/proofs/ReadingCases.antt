@@ -1,6 +1,6 @@
 -- What the fields of a line are like where it reads as a command.
 -- Assumes nothing.
-use Rattle.std.proofs.Common.{◌≡◌, ℕ, Bool, true, false, not, ◌||◌, ltb, ◌⊎◌, List, [], ◌∷◌, refl, inl, inr, ⊎_elim, arith}
+use Rattle.std.proofs.Common.{◌≡◌, ℕ, Bool, true, false, not, ◌||◌, ltb, ◌⊎◌, List, [], ◌∷◌, refl, inl, inr, ⊎_elim, arith, Option, Some, None}
 use borrow.Author.Tests.{not-false}
 use Rattle.memory.proofs.Tests.{or_split}
 use Rattle.memory.specs.Search.{pick}
@@ -8,20 +8,18 @@ use Rattle.script.proofs.Numerals.{said}
 use Rattle.script.specs.declared.Command.{Command}
 use Rattle.script.specs.declared.Numeral.{Numeral}
 use Rattle.script.specs.declared.Numeral.TheVariants.{Nothing, Number, Minus, Negative, Wrong}
-use Rattle.script.specs.declared.Reading.{Reading}
-use Rattle.script.specs.declared.Reading.TheVariants.{Readable, Unreadable}
 use Rattle.script.specs.Reading.{four, numeral, is_bytes, are_hex_pairs, if_integer, if_number, of_bytes, same, reading}
 
-pub unreadable : {command : Command} → Unreadable ≡ Readable command → ⊥
+pub unreadable : {command : Command} → None ≡ Some command → ⊥
 unreadable {command} e = let z : ◌≡◌ {A = ℕ} 0 1 = cc in omega arith
 
 -- a field that has to be a number, or a negative one, is that
-pub record IsNumber (negative : Bool) (n : Numeral) (then : ℕ → Reading) (command : Command) : Type 0 where
+pub record IsNumber (negative : Bool) (n : Numeral) (then : ℕ → Option Command) (command : Command) : Type 0 where
   pub value : ℕ
   pub number : n ≡ said negative value
-  pub reads : then value ≡ Readable command
+  pub reads : then value ≡ Some command
 
-pub is_integer : {command : Command} (n : Numeral) (plain below : ℕ → Reading) → if_integer n plain below ≡ Readable command
+pub is_integer : {command : Command} (n : Numeral) (plain below : ℕ → Option Command) → if_integer n plain below ≡ Some command
     → IsNumber false n plain command ⊎ IsNumber true n below command
 is_integer {command} Nothing plain below e = absurd (unreadable e)
 is_integer (Number n) plain below e = inl (record { value = n; number = refl; reads = e })
@@ -29,17 +27,17 @@ is_integer {command} Minus plain below e = absurd (unreadable e)
 is_integer (Negative n) plain below e = inr (record { value = n; number = refl; reads = e })
 is_integer {command} Wrong plain below e = absurd (unreadable e)
 
-pub is_number : {command : Command} (n : Numeral) (then : ℕ → Reading) → if_number n then ≡ Readable command → IsNumber false n then command
-is_number n then e = ⊎_elim (λ is. is) (λ is. absurd (unreadable is.reads)) (is_integer n then (λ v. Unreadable) e)
+pub is_number : {command : Command} (n : Numeral) (then : ℕ → Option Command) → if_number n then ≡ Some command → IsNumber false n then command
+is_number n then e = ⊎_elim (λ is. is) (λ is. absurd (unreadable is.reads)) (is_integer n then (λ v. None) e)
 
 -- what a choice of readings chose
-pub choice_refused : {command : Command} (b : Bool) (rest : Reading) → pick b Unreadable rest ≡ Readable command
-    → (b ≡ false) × (rest ≡ Readable command)
+pub choice_refused : {command : Command} (b : Bool) (rest : Option Command) → pick b None rest ≡ Some command
+    → (b ≡ false) × (rest ≡ Some command)
 choice_refused true rest e = absurd (unreadable e)
 choice_refused false rest e = (refl, e)
 
 -- a fourth field is whole bytes
-pub fourth_bytes : (n f s h : List ℕ) (command : Command) → reading (four n f s h) ≡ Readable command → is_bytes h ≡ true
+pub fourth_bytes : (n f s h : List ℕ) (command : Command) → reading (four n f s h) ≡ Some command → is_bytes h ≡ true
 fourth_bytes n f s h command e =
     let first = is_number (numeral f) (λ k. if_number (numeral s) (of_bytes (same n) (is_bytes h) k)) e in
     let second = is_number (numeral s) (of_bytes (same n) (is_bytes h) first.value) first.reads in

@@ -1,6 +1,6 @@
 -- A line reads as a command exactly where it is that command's text, its value as it stands or signed.
 -- Assumes nothing.
-use Rattle.std.proofs.Common.{◌≡◌, ℕ, zero, suc, ◌-◌, ◌%◌, ◌^◌, Bool, true, false, not, ◌||◌, eqb, ltb, List, [], ◌∷◌, ◌++◌, sym, refl, ap, ◌∙◌, inl, inr, ⊎_elim, append_assoc}
+use Rattle.std.proofs.Common.{◌≡◌, ℕ, zero, suc, ◌-◌, ◌%◌, ◌^◌, Bool, true, false, not, ◌||◌, eqb, ltb, List, [], ◌∷◌, ◌++◌, sym, refl, ap, ◌∙◌, inl, inr, ⊎_elim, append_assoc, Option, Some, None}
 use Rattle.std.proofs.Common.{append-nil, zero-lt-suc, arith, ltb-false}
 use Rattle.memory.proofs.IntegerLaws.{plain_text}
 use Rattle.memory.proofs.Search.{picked}
@@ -20,8 +20,6 @@ use Rattle.script.specs.declared.Ask.TheVariants.{Receive, Status, Marks, ClearM
 use Rattle.script.specs.declared.Command.{Command}
 use Rattle.script.specs.declared.Command.TheVariants.{Start, Stop, Send, Initialise, Object, Periodic, Indication, Confirm, Tick}
 use Rattle.script.specs.declared.Numeral.TheVariants.{Number, Negative}
-use Rattle.script.specs.declared.Reading.{Reading}
-use Rattle.script.specs.declared.Reading.TheVariants.{Readable, Unreadable}
 use Rattle.script.specs.Reading.{Fields, one, two, three, four, too_many, fields_of, numeral, is_bytes, hex_bytes}
 use Rattle.script.specs.Reading.{alone, of_object, of_value, of_two, of_negative, of_bytes, if_integer, if_number, same, reading, read_line, bytes_in}
 use Rattle.script.specs.Text.{number_fields, value_fields, hex, hex_field, name_of, numbers_of, values_of, good_number, text}
@@ -49,12 +47,12 @@ module _ (signed : Bool) (w : List ℕ) where
 
 -- ---- a text reads as its command, with its bytes
 
-record Reads (line bytes : List ℕ) (result : Reading) : Type 0 where
+record Reads (line bytes : List ℕ) (result : Option Command) : Type 0 where
   reads : read_line line ≡ result
   brings : bytes_in (fields_of line) ≡ bytes
 
 -- by its fields
-reads_so : {line bytes : List ℕ} {fields : Fields} {result : Reading} → fields_of line ≡ fields → reading fields ≡ result → bytes_in fields ≡ bytes
+reads_so : {line bytes : List ℕ} {fields : Fields} {result : Option Command} → fields_of line ≡ fields → reading fields ≡ result → bytes_in fields ≡ bytes
     → Reads line bytes result
 reads_so these reads brings = record { reads = ap reading these ∙ reads; brings = ap bytes_in these ∙ brings }
 
@@ -97,7 +95,7 @@ module _ (signed : Bool) (w : List ℕ) (name : is_word w ≡ true) where
 
 module _ (signed : Bool) where
   -- with no bytes beside it
-  bare_reads : (command : Command) → TypedCommand command [] → Reads (text signed command []) [] (Readable command)
+  bare_reads : (command : Command) → TypedCommand command [] → Reads (text signed command []) [] (Some command)
   bare_reads Start t = reads_none signed start_name refl
   bare_reads Stop t = reads_none signed stop_name refl
   bare_reads (Send i v) t = reads_value signed send_name refl i.0 v t.numbers_fit t.values_fit (λ below. refl)
@@ -116,7 +114,7 @@ module _ (signed : Bool) where
 
   -- with bytes, which only an indication has
   full_reads : (command : Command) (b : ℕ) (bs : List ℕ) → TypedCommand command (b ∷ bs) → (carries command ≡ false → ⊥)
-      → Reads (text signed command (b ∷ bs)) (b ∷ bs) (Readable command)
+      → Reads (text signed command (b ∷ bs)) (b ∷ bs) (Some command)
   full_reads Start b bs t has = absurd (has refl)
   full_reads Stop b bs t has = absurd (has refl)
   full_reads (Send i v) b bs t has = absurd (has refl)
@@ -128,13 +126,13 @@ module _ (signed : Bool) where
   full_reads (Confirm k good) b bs t has = absurd (has refl)
   full_reads Tick b bs t has = absurd (has refl)
 
-  typed_reads : (command : Command) (bytes : List ℕ) → TypedCommand command bytes → Reads (text signed command bytes) bytes (Readable command)
+  typed_reads : (command : Command) (bytes : List ℕ) → TypedCommand command bytes → Reads (text signed command bytes) bytes (Some command)
   typed_reads command [] t = bare_reads command t
   typed_reads command (b ∷ bs) t =
       full_reads command b bs t (λ none. let z : b ∷ bs ≡ [] = t.none_beside none in let y : ◌≡◌ {A = ℕ} 0 1 = cc in omega arith)
 
 pub text_reads : (signed : Bool) {command : Command} {bytes : List ℕ} → TypedCommand command bytes
-    → read_line (text signed command bytes) ≡ Readable command
+    → read_line (text signed command bytes) ≡ Some command
 text_reads signed {command} {bytes} t = (typed_reads signed command bytes t).reads
 
 pub text_bytes : (signed : Bool) {command : Command} {bytes : List ℕ} → TypedCommand command bytes
@@ -144,9 +142,9 @@ text_bytes signed {command} {bytes} t = (typed_reads signed command bytes t).bri
 -- ---- a line that reads as a command is its text
 
 -- the first of these commands that has the name of the line
-abbrev first_named : List ℕ → List Command → Reading
-first_named n [] = Unreadable
-first_named n (c ∷ cs) = pick (same n (name_of c)) (Readable c) (first_named n cs)
+abbrev first_named : List ℕ → List Command → Option Command
+first_named n [] = None
+first_named n (c ∷ cs) = pick (same n (name_of c)) (Some c) (first_named n cs)
 
 abbrev EachHas : (Command → Type 0) → List Command → Type 0
 EachHas P [] = Unit {0}
@@ -157,13 +155,13 @@ record Chosen (P : Command → Type 0) (n : List ℕ) (command : Command) : Type
   named : name_of command ≡ n
   has : P command
 
-choose : (P : Command → Type 0) (n : List ℕ) (cs : List Command) (command : Command) → EachHas P cs → first_named n cs ≡ Readable command
+choose : (P : Command → Type 0) (n : List ℕ) (cs : List Command) (command : Command) → EachHas P cs → first_named n cs ≡ Some command
     → Chosen P n command
 choose P n [] command each e = absurd (unreadable e)
 choose P n (c ∷ cs) command each e =
     ⊎_elim
     (λ (t : same n (name_of c) ≡ true).
-    let chosen : Readable c ≡ Readable command = rw t at e in
+    let chosen : Some c ≡ Some command = rw t at e in
     let this : c ≡ command = cc in
     let found : Chosen P n c = record { named = sym (same_equal n (name_of c) t); has = each.0 } in
     rw this at found)
@@ -197,7 +195,7 @@ module _ (signed : Bool) (n bytes line : List ℕ) (command : Command) where
   abbrev SaysOf : Command → Type 0
   SaysOf c = Says signed n (numbers_of c) (values_of c) bytes (carries c) line
 
-  chosen_text : (cs : List Command) → EachHas SaysOf cs → first_named n cs ≡ Readable command → IsText line command bytes
+  chosen_text : (cs : List Command) → EachHas SaysOf cs → first_named n cs ≡ Some command → IsText line command bytes
   unfolding IsText
   chosen_text cs each e =
       let c = choose SaysOf n cs command each e in
@@ -206,20 +204,20 @@ module _ (signed : Bool) (n bytes line : List ℕ) (command : Command) where
         record { numbers_fit = says.numbers; values_fit = says.values; are_bytes = says.are; none_beside = says.none },
       )
 
-  alone_text : Says signed n [] [] bytes false line → alone (same n) ≡ Readable command → IsText line command bytes
+  alone_text : Says signed n [] [] bytes false line → alone (same n) ≡ Some command → IsText line command bytes
   alone_text s e = chosen_text (Start ∷ Stop ∷ Periodic true ∷ Periodic false ∷ Tick ∷ []) (s, (s, (s, (s, (s, tt))))) e
 
-  object_text : (i : ℕ) → Says signed n (i ∷ []) [] bytes false line → of_object (same n) i ≡ Readable command → IsText line command bytes
+  object_text : (i : ℕ) → Says signed n (i ∷ []) [] bytes false line → of_object (same n) i ≡ Some command → IsText line command bytes
   object_text i s e =
       let object : ObjectNumber = record { 0 = i } in
       chosen_text (Object Receive object ∷ Object Status object ∷ Object Marks object ∷ Object ClearMarks object ∷ []) (s, (s, (s, (s, tt)))) e
 
-  value_text : (i v : ℕ) → Says signed n (i ∷ []) (v ∷ []) bytes false line → of_value (same n) i v Unreadable ≡ Readable command
+  value_text : (i v : ℕ) → Says signed n (i ∷ []) (v ∷ []) bytes false line → of_value (same n) i v None ≡ Some command
       → IsText line command bytes
   value_text i v s e = let object : ObjectNumber = record { 0 = i } in chosen_text (Send object v ∷ Initialise object v ∷ []) (s, (s, tt)) e
 
   two_text : (i v : ℕ) → Says signed n (i ∷ []) (v ∷ []) bytes false line → ((carried : Bool) → Says signed n (i ∷ v ∷ []) [] bytes carried line)
-      → of_two (same n) i v ≡ Readable command → IsText line command bytes
+      → of_two (same n) i v ≡ Some command → IsText line command bytes
   two_text i v s p e =
       let object : ObjectNumber = record { 0 = i } in
       let ipdu : IpduNumber = record { 0 = i } in
@@ -231,7 +229,7 @@ module _ (signed : Bool) (n bytes line : List ℕ) (command : Command) where
       (s, (s, (good true, (good false, tt)))) (rw t at e))
       (true_or_false (ltb 1 v))
 
-  bytes_text : (whole : Bool) (k v : ℕ) → Says signed n (k ∷ v ∷ []) [] bytes true line → of_bytes (same n) whole k v ≡ Readable command
+  bytes_text : (whole : Bool) (k v : ℕ) → Says signed n (k ∷ v ∷ []) [] bytes true line → of_bytes (same n) whole k v ≡ Some command
       → IsText line command bytes
   bytes_text whole k v s e =
       let ipdu : IpduNumber = record { 0 = k } in
@@ -248,7 +246,7 @@ says_bare : {signed carried : Bool} {n ns vs line : List ℕ} → line_of signed
 says_bare whole numbers values = record { whole = whole; numbers = numbers; values = values; are = λ i. zero-lt-suc 255; none = λ e. refl }
 
 module _ (line : List ℕ) (command : Command) where
-  fields_text : (fields : Fields) → AllOf fields line → reading fields ≡ Readable command → IsText line command (bytes_in fields)
+  fields_text : (fields : Fields) → AllOf fields line → reading fields ≡ Some command → IsText line command (bytes_in fields)
   fields_text (one n) all e = alone_text false n [] line command (says_bare (line_none false n ∙ all) tt tt) e
   fields_text (two n f) all e =
       let first = is_number (numeral f) (of_object (same n)) e in
@@ -294,7 +292,7 @@ module _ (line : List ℕ) (command : Command) where
       }) second.reads
   fields_text too_many all e = absurd (unreadable e)
 
-pub reads_text : {line : List ℕ} {command : Command} → read_line line ≡ Readable command
+pub reads_text : {line : List ℕ} {command : Command} → read_line line ≡ Some command
     → IsLineOf line command (bytes_in (fields_of line)) × TypedCommand command (bytes_in (fields_of line))
 unfolding IsText
 reads_text {line} {command} e = fields_text line command (fields_of line) (fields_all line) e

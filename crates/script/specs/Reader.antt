@@ -1,6 +1,6 @@
 -- A line as it is read, byte by byte, in a few numbers: the name as two numbers in base 256, the numbers so far, the bytes as a number
 -- and how many hex digits there were. Laws in proofs/LineReads say what this has to do with Reading. Assumes nothing.
-use Rattle.std.specs.Prelude.{ℕ, zero, suc, ◌+◌, ◌*◌, ◌/◌, ◌%◌, ◌^◌, Bool, false, not, ◌&&◌, List, [], ◌∷◌, ◌++◌, ◌==◌, nat_lt}
+use Rattle.std.specs.Prelude.{ℕ, zero, suc, ◌+◌, ◌*◌, ◌/◌, ◌%◌, ◌^◌, Bool, false, not, ◌&&◌, List, [], ◌∷◌, ◌++◌, ◌==◌, nat_lt, Option, None}
 use Rattle.memory.specs.Search.{pick}
 use Rattle.memory.specs.Texts.{blank}
 use Rattle.script.specs.declared.Frame.{Frame}
@@ -10,9 +10,8 @@ use Rattle.script.specs.declared.Name.{Name}
 use Rattle.script.specs.declared.Numeral.TheVariants.{Nothing}
 use Rattle.script.specs.declared.Reader.{Reader}
 use Rattle.script.specs.declared.Reader.TheVariants.{Naming, First, Second, Bytes, TooMany}
-use Rattle.script.specs.declared.Reading.{Reading}
-use Rattle.script.specs.declared.Reading.TheVariants.{Unreadable}
 use Rattle.script.specs.Reading.{numeral_with, hex_value, alone, of_object, of_two, of_negative, of_bytes, if_integer, if_number}
+use Rattle.script.specs.declared.Command.{Command}
 
 -- ---- the name: up to eight letters in `head`, up to eight more in `tail`; 17 letters stand for too many
 
@@ -87,12 +86,12 @@ unfoldable pub next_from : Reader → List ℕ → Reader
 next_from r [] = r
 next_from r (b ∷ line) = next_from (next r b) line
 
-unfoldable pub command_of : Reader → Reading
+unfoldable pub command_of : Reader → Option Command
 command_of (Naming n) = alone (is_named n)
 command_of (First n f) = if_number f (of_object (is_named n))
 command_of (Second n f s) = if_number f (λ i. if_integer s (of_two (is_named n) i) (of_negative (is_named n) i))
 command_of (Bytes n f s h) = if_number f (λ k. if_number s (of_bytes (is_named n) (whole_bytes h) k))
-command_of TooMany = Unreadable
+command_of TooMany = None
 
 -- ---- the bytes of an indication; nine stand for any longer ones
 

@@ -1,6 +1,6 @@
 -- W-201: which command a line is, if it is one. The fields of a line stand between single blanks; the first is the name.
 -- Laws in proofs/TextReads: a line reads as a command exactly where it is that command's text. Assumes nothing.
-use Rattle.std.specs.Prelude.{ℕ, ◌+◌, ◌-◌, ◌*◌, ◌%◌, ◌^◌, Bool, true, false, not, ◌&&◌, ◌||◌, List, [], ◌∷◌, ◌++◌, ◌==◌, nat_le, nat_lt}
+use Rattle.std.specs.Prelude.{ℕ, ◌+◌, ◌-◌, ◌*◌, ◌%◌, ◌^◌, Bool, true, false, not, ◌&&◌, ◌||◌, List, [], ◌∷◌, ◌++◌, ◌==◌, nat_le, nat_lt, Option, Some, None}
 use Rattle.memory.specs.Search.{pick}
 use Rattle.memory.specs.Texts.{blank}
 use Rattle.memory.specs.Integers.{minus}
@@ -8,10 +8,9 @@ use Rattle.script.specs.declared.Ask.TheVariants.{Receive, Status, Marks, ClearM
 use Rattle.script.specs.declared.Command.TheVariants.{Start, Stop, Send, Initialise, Object, Periodic, Indication, Confirm, Tick}
 use Rattle.script.specs.declared.Numeral.{Numeral}
 use Rattle.script.specs.declared.Numeral.TheVariants.{Nothing, Number, Minus, Negative, Wrong}
-use Rattle.script.specs.declared.Reading.{Reading}
-use Rattle.script.specs.declared.Reading.TheVariants.{Readable, Unreadable}
 use Rattle.script.specs.Text.{start_name, stop_name, send_name, initialise_name, receive_name, status_name, marks_name, clear_marks_name}
 use Rattle.script.specs.Text.{start_periodic_name, stop_periodic_name, indication_name, confirm_name, tick_name}
+use Rattle.script.specs.declared.Command.{Command}
 
 -- ---- fields
 
@@ -89,56 +88,56 @@ hex_bytes (a ∷ b ∷ field) = (16 * hex_value a + hex_value b) ∷ hex_bytes f
 
 -- ---- which command: `is` says whether the name of the line is the one given
 
-abbrev pub alone : (List ℕ → Bool) → Reading
+abbrev pub alone : (List ℕ → Bool) → Option Command
 alone is =
-    pick (is start_name) (Readable Start)
-    (pick (is stop_name) (Readable Stop)
-    (pick (is start_periodic_name) (Readable (Periodic true))
-    (pick (is stop_periodic_name) (Readable (Periodic false)) (pick (is tick_name) (Readable Tick) Unreadable))))
+    pick (is start_name) (Some Start)
+    (pick (is stop_name) (Some Stop)
+    (pick (is start_periodic_name) (Some (Periodic true))
+    (pick (is stop_periodic_name) (Some (Periodic false)) (pick (is tick_name) (Some Tick) None))))
 
-abbrev pub of_object : (List ℕ → Bool) → ℕ → Reading
+abbrev pub of_object : (List ℕ → Bool) → ℕ → Option Command
 of_object is i =
-    pick (is receive_name) (Readable (Object Receive (record { 0 = i })))
-    (pick (is status_name) (Readable (Object Status (record { 0 = i })))
-    (pick (is marks_name) (Readable (Object Marks (record { 0 = i })))
-    (pick (is clear_marks_name) (Readable (Object ClearMarks (record { 0 = i }))) Unreadable)))
+    pick (is receive_name) (Some (Object Receive (record { 0 = i })))
+    (pick (is status_name) (Some (Object Status (record { 0 = i })))
+    (pick (is marks_name) (Some (Object Marks (record { 0 = i })))
+    (pick (is clear_marks_name) (Some (Object ClearMarks (record { 0 = i }))) None)))
 
 -- an indication without bytes is one of these
-abbrev pub of_ipdu : (List ℕ → Bool) → ℕ → ℕ → Reading
+abbrev pub of_ipdu : (List ℕ → Bool) → ℕ → ℕ → Option Command
 of_ipdu is k good =
-    pick (nat_lt 1 good) Unreadable
-    (pick (is indication_name) (Readable (Indication (record { 0 = k }) (good == 1)))
-    (pick (is confirm_name) (Readable (Confirm (record { 0 = k }) (good == 1))) Unreadable))
+    pick (nat_lt 1 good) None
+    (pick (is indication_name) (Some (Indication (record { 0 = k }) (good == 1)))
+    (pick (is confirm_name) (Some (Confirm (record { 0 = k }) (good == 1))) None))
 
 -- a send or an initialise of a value, or else another reading
-abbrev pub of_value : (List ℕ → Bool) → ℕ → ℕ → Reading → Reading
+abbrev pub of_value : (List ℕ → Bool) → ℕ → ℕ → Option Command → Option Command
 of_value is i v other =
-    pick (is send_name) (Readable (Send (record { 0 = i }) v))
-    (pick (is initialise_name) (Readable (Initialise (record { 0 = i }) v)) other)
+    pick (is send_name) (Some (Send (record { 0 = i }) v))
+    (pick (is initialise_name) (Some (Initialise (record { 0 = i }) v)) other)
 
-abbrev pub of_two : (List ℕ → Bool) → ℕ → ℕ → Reading
+abbrev pub of_two : (List ℕ → Bool) → ℕ → ℕ → Option Command
 of_two is i v = of_value is i v (of_ipdu is i v)
 
 -- W-207: the second number is -n; as a value it means its 32 bits, and no other number may be negative
-abbrev pub of_negative : (List ℕ → Bool) → ℕ → ℕ → Reading
-of_negative is i n = of_value is i ((2 ^ 32 - n) % 2 ^ 32) Unreadable
+abbrev pub of_negative : (List ℕ → Bool) → ℕ → ℕ → Option Command
+of_negative is i n = of_value is i ((2 ^ 32 - n) % 2 ^ 32) None
 
-abbrev pub of_bytes : (List ℕ → Bool) → Bool → ℕ → ℕ → Reading
+abbrev pub of_bytes : (List ℕ → Bool) → Bool → ℕ → ℕ → Option Command
 of_bytes is whole k good =
-    pick (nat_lt 1 good || not whole) Unreadable
-    (pick (is indication_name) (Readable (Indication (record { 0 = k }) (good == 1))) Unreadable)
+    pick (nat_lt 1 good || not whole) None
+    (pick (is indication_name) (Some (Indication (record { 0 = k }) (good == 1))) None)
 
 -- a field that may be a number or a negative one
-abbrev pub if_integer : Numeral → (ℕ → Reading) → (ℕ → Reading) → Reading
-if_integer Nothing number negative = Unreadable
+abbrev pub if_integer : Numeral → (ℕ → Option Command) → (ℕ → Option Command) → Option Command
+if_integer Nothing number negative = None
 if_integer (Number n) number negative = number n
-if_integer Minus number negative = Unreadable
+if_integer Minus number negative = None
 if_integer (Negative n) number negative = negative n
-if_integer Wrong number negative = Unreadable
+if_integer Wrong number negative = None
 
 -- one that has to be a number
-abbrev pub if_number : Numeral → (ℕ → Reading) → Reading
-if_number numeral then = if_integer numeral then (λ n. Unreadable)
+abbrev pub if_number : Numeral → (ℕ → Option Command) → Option Command
+if_number numeral then = if_integer numeral then (λ n. None)
 
 -- two lists of characters are the same
 abbrev pub same : List ℕ → List ℕ → Bool
@@ -147,12 +146,12 @@ same [] (b ∷ ys) = false
 same (a ∷ xs) [] = false
 same (a ∷ xs) (b ∷ ys) = a == b && same xs ys
 
-abbrev pub reading : Fields → Reading
+abbrev pub reading : Fields → Option Command
 reading (one n) = alone (same n)
 reading (two n f) = if_number (numeral f) (of_object (same n))
 reading (three n f s) = if_number (numeral f) (λ i. if_integer (numeral s) (of_two (same n) i) (of_negative (same n) i))
 reading (four n f s h) = if_number (numeral f) (λ k. if_number (numeral s) (of_bytes (same n) (is_bytes h) k))
-reading too_many = Unreadable
+reading too_many = None
 
 -- the bytes of an indication, [] for any other line
 abbrev pub bytes_in : Fields → List ℕ
@@ -167,5 +166,5 @@ bytes_in too_many = []
 abbrev pub fields_of : List ℕ → Fields
 fields_of line = fields_from (one []) line
 
-abbrev pub read_line : List ℕ → Reading
+abbrev pub read_line : List ℕ → Option Command
 read_line line = reading (fields_of line)

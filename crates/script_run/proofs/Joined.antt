@@ -1,15 +1,14 @@
 -- Parts of a script join to the whole: what two parts print, one after the other, is what both print as one (`parts_join`).
 -- Assumes nothing.
-use Rattle.std.proofs.Common.{Bool, true, false, List, [], ◌∷◌, ◌++◌, append_assoc, append-nil, ◌≡◌, refl, ap, ◌∙◌, ℕ, eqb}
+use Rattle.std.proofs.Common.{Bool, true, false, List, [], ◌∷◌, ◌++◌, append_assoc, append-nil, ◌≡◌, refl, ap, ◌∙◌, ℕ, eqb, Option, Some, None}
 use Rattle.memory.specs.Search.{pick}
 use Rattle.memory.specs.Texts.{line_feed}
-use Rattle.script.specs.declared.Reading.{Reading}
-use Rattle.script.specs.declared.Reading.TheVariants.{Readable, Unreadable}
 use Rattle.script.specs.Reader.{next, command_of, frame_of, frame_bytes}
 use Rattle.report.specs.Printing.{answer_line, refusal_line}
 use Rattle.script.specs.declared.Progress.{Progress}
 use Rattle.script_run.specs.Script.{effect}
 use Rattle.script_run.specs.Parts.{Board, board, by_reading, line_ended, with_reader, advance, advanced, progress_of, resumed}
+use Rattle.script.specs.declared.Command.{Command}
 
 -- ---- one part after another
 
@@ -38,11 +37,11 @@ abbrev pub printed_before : List ℕ → Board → Board
 printed_before text b = board b.reader b.line b.ended b.memory b.area (text ++ b.text)
 
 module _ (t text : List ℕ) where
-  ended_before : (r : Reading) (bytes : List ℕ) (b : Board) → by_reading t r bytes (printed_before text b) ≡ printed_before text (by_reading t r bytes b)
-  ended_before (Readable command) bytes b =
+  ended_before : (r : Option Command) (bytes : List ℕ) (b : Board) → by_reading t r bytes (printed_before text b) ≡ printed_before text (by_reading t r bytes b)
+  ended_before (Some command) bytes b =
       let o = effect t command bytes b.area b.memory in
       rw (append_assoc text b.text (answer_line t command o.answer o.area))
-  ended_before Unreadable bytes b = rw (append_assoc text b.text (refusal_line b.line))
+  ended_before None bytes b = rw (append_assoc text b.text (refusal_line b.line))
 
   pub line_ended_before : (b : Board) → line_ended t (printed_before text b) ≡ printed_before text (line_ended t b)
   unfolding line_ended

@@ -1,11 +1,10 @@
 -- Of an indication's bytes more than eight are as good as any other more than eight: the length of an I-PDU is at most 8.
 -- Assumes nothing.
-use Rattle.std.proofs.Common.{Bool, true, false, ◌&&◌, List, [], ⊎_elim, ◌≡◌, refl, ap, ℕ, ◌<◌, arith, ltb-true, ne_eqb, ltb, leb, eqb, length}
+use Rattle.std.proofs.Common.{Bool, true, false, ◌&&◌, List, [], ⊎_elim, ◌≡◌, refl, ap, ℕ, ◌<◌, arith, ltb-true, ne_eqb, ltb, leb, eqb, length, Result, Err, Ok}
 use Rattle.memory.proofs.Search.{picked}
 use Rattle.memory.proofs.Tests.{and_split, true_or_false}
 use Rattle.table.specs.declared.Counts.{Counts}
-use Rattle.table.specs.declared.Verdict.{Verdict}
-use Rattle.table.specs.declared.Verdict.TheVariants.{Accepted, WrongHeader, WrongIpdu, WrongObject}
+use Rattle.table.specs.declared.WrongRecord.{WrongRecord}
 use Rattle.table.specs.Check.{check, Right}
 use Rattle.table.specs.Records.{receiving, ipdu_record}
 use Rattle.table.proofs.Accepted.{accepted_right}
@@ -14,7 +13,7 @@ use Rattle.state.specs.Ranges.{in_range}
 use Rattle.calls.specs.Answers.{Outcome, outcome}
 use Rattle.calls.specs.Calls.{is_ipdu, indication_of, indication_in}
 use Rattle.calls.proofs.Records.{ipdu_short}
-use Rattle.layer.specs.declared.Admission.{Admission}
+use Rattle.layer.specs.Admission.{Admission}
 use Rattle.layer.specs.Admission.{working_memory, admission_of, admission, on_working_memory, if_admitted}
 use Rattle.layer.specs.Step.{step, indication}
 use Rattle.script.specs.declared.Ask.TheVariants.{Receive, Status, Marks, ClearMarks}
@@ -47,11 +46,9 @@ module _ (t : List ℕ) (k : ℕ) (x y : List ℕ) (long_x : 8 < length x) (long
       Same : Admission → Type 0
       Same a = if_admitted a m [] (λ c. indication_in t c k good x) ≡ if_admitted a m [] (λ c. indication_in t c k good y)
 
-      go : (v : Verdict) → check t ≡ v → Same (admission_of v t m true)
-      go WrongHeader e = refl
-      go (WrongIpdu n) e = refl
-      go (WrongObject n) e = refl
-      go (Accepted c) e =
+      go : (v : Result Counts WrongRecord) → check t ≡ v → Same (admission_of v t m true)
+      go (Err wrong) e = refl
+      go (Ok c) e =
           let same = indication_in_long c (accepted_right t c e) good (working_memory m) in
           let admitted : on_working_memory (indication_in t c k good x) m ≡ on_working_memory (indication_in t c k good y) m = rw same in
           picked Same (leb memory_size (length m) && true) _ _

@@ -1,6 +1,6 @@
 -- W-201 over every script: what a run prints, and what it leaves in memory and area, is what the definition says (`prints`).
 -- Assumes: the script holds bytes, and has fewer than 2 ^ 64 - 1 of them.
-use Rattle.std.proofs.Common.{Bool, true, false, List, [], ◌∷◌, ◌++◌, append_assoc, append-nil, ⊎_elim, ◌≡◌, refl, sym, ap, ◌∙◌, ℕ, zero, suc, ◌+◌}
+use Rattle.std.proofs.Common.{Bool, true, false, List, [], ◌∷◌, ◌++◌, append_assoc, append-nil, ⊎_elim, ◌≡◌, refl, sym, ap, ◌∙◌, ℕ, zero, suc, ◌+◌, Option, Some, None}
 use Rattle.std.proofs.Common.{◌-◌, ◌^◌, ◌≤◌, ◌<◌, arith, lt-ltb, ne_eqb, eqb, length}
 use Rattle.memory.specs.Bytes.{Bytes}
 use Rattle.memory.specs.Search.{pick}
@@ -10,8 +10,6 @@ use Rattle.script.specs.declared.Command.{Command}
 use Rattle.script.specs.declared.Reader.{Reader}
 use Rattle.script.specs.declared.Reader.TheVariants.{Naming, First, Second, TooMany}
 use Rattle.script.specs.declared.Reader.TheVariants.{Bytes as Bytes·line}
-use Rattle.script.specs.declared.Reading.{Reading}
-use Rattle.script.specs.declared.Reading.TheVariants.{Readable, Unreadable}
 use Rattle.script.specs.Reading.{fields_of, bytes_in, read_line}
 use Rattle.script.specs.Reader.{next, next_from, fresh, frame_of, frame_bytes}
 use Rattle.script.proofs.LineReads.{command_reads, frame_reads, frame_too_long, begun_reads}
@@ -55,7 +53,7 @@ none : Bytes []
 none i = omega arith
 
 -- the bytes lent for an indication do what those of the line do: they are the same, or both are too long
-frames : (t l : List ℕ) (c : Command) → read_line l ≡ Readable c → (area m : List ℕ)
+frames : (t l : List ℕ) (c : Command) → read_line l ≡ Some c → (area m : List ℕ)
     → effect t c (frame_bytes (frame_of (next_from fresh l))) area m ≡ effect t c (bytes_in (fields_of l)) area m
 frames t l c e area m =
     ⊎_elim
@@ -113,14 +111,14 @@ module _ (t : List ℕ) where
   -- the line feed of line l, where `ih` says what follows it
   line_ended_lem : (l : List ℕ) (n : ℕ) → n < 2 ^ 64 - 1 → (m area before s : List ℕ) (rest : List ScriptLine)
       → ((m area before : List ℕ) → Agrees (advanced t (board fresh (n + 1) false m area before) s) before (print t (n + 1) rest m area))
-      → (r : Reading) → read_line l ≡ r →
+      → (r : Option Command) → read_line l ≡ r →
       let b = board (next_from fresh l) n false m area before in
       Agrees (advanced t (by_reading t r (frame_bytes (frame_of (next_from fresh l))) b) s) before (print t n (line_as r (bytes_in (fields_of l)) ∷ rest) m area)
-  line_ended_lem l n low m area before s rest ih (Readable c) e =
+  line_ended_lem l n low m area before s rest ih (Some c) e =
       let o = effect t c (bytes_in (fields_of l)) area m in
       rw (frames t l c e area m, lt-ltb n (2 ^ 64 - 1) low)
       (line_read c (bytes_in (fields_of l)) n m area before s rest (ih o.memory o.area (before ++ answer_line t c o.answer o.area)))
-  line_ended_lem l n low m area before s rest ih Unreadable e = line_refused l n m area before s rest (next_from fresh l)
+  line_ended_lem l n low m area before s rest ih None e = line_refused l n m area before s rest (next_from fresh l)
 
   -- ---- every byte
 

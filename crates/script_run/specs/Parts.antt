@@ -1,14 +1,12 @@
 -- A script that is run in parts: what is kept between them, and what each byte does. Laws in proofs/Joined and proofs/Prints say that
 -- the parts join, and that the whole is what Script says. Assumes nothing.
-use Rattle.std.specs.Prelude.{Bool, true, false, ◌||◌, List, [], ◌∷◌, ◌++◌, ℕ, ◌+◌, ◌-◌, ◌^◌, ltb, eqb}
+use Rattle.std.specs.Prelude.{Bool, true, false, ◌||◌, List, [], ◌∷◌, ◌++◌, ℕ, ◌+◌, ◌-◌, ◌^◌, ltb, eqb, Option, Some, None}
 use Rattle.memory.specs.Search.{pick}
 use Rattle.memory.specs.Texts.{line_feed}
 use Rattle.calls.specs.Answers.{Outcome}
 use Rattle.script.specs.declared.Command.{Command}
 use Rattle.script.specs.declared.Reader.{Reader}
 use Rattle.script.specs.declared.Reader.TheVariants.{Naming, First, Second, Bytes, TooMany}
-use Rattle.script.specs.declared.Reading.{Reading}
-use Rattle.script.specs.declared.Reading.TheVariants.{Readable, Unreadable}
 use Rattle.script.specs.Reader.{next, fresh, command_of, frame_of, frame_bytes}
 use Rattle.report.specs.Printing.{answer_line, refusal_line}
 use Rattle.script.specs.declared.Progress.{Progress}
@@ -46,9 +44,9 @@ answered t command b o = board fresh (next_line b.line) false o.memory o.area (b
 abbrev pub refused : Board → Board
 refused b = board fresh b.line true b.memory b.area (b.text ++ refusal_line b.line)
 
-abbrev pub by_reading : List ℕ → Reading → List ℕ → Board → Board
-by_reading t (Readable command) bytes b = answered t command b (effect t command bytes b.area b.memory)
-by_reading t Unreadable bytes b = refused b
+abbrev pub by_reading : List ℕ → Option Command → List ℕ → Board → Board
+by_reading t (Some command) bytes b = answered t command b (effect t command bytes b.area b.memory)
+by_reading t None bytes b = refused b
 
 unfoldable pub line_ended : List ℕ → Board → Board
 line_ended t b = by_reading t (command_of b.reader) (frame_bytes (frame_of b.reader)) b

@@ -1,5 +1,5 @@
 -- W-201: what a script prints, and what it leaves in memory and area. Assumes nothing.
-use Rattle.std.specs.Prelude.{Bool, true, false, List, [], ◌∷◌, ◌++◌, ℕ, suc, eqb}
+use Rattle.std.specs.Prelude.{Bool, true, false, List, [], ◌∷◌, ◌++◌, ℕ, suc, eqb, Option, Some, None}
 use Rattle.memory.specs.Search.{pick}
 use Rattle.memory.specs.Texts.{line_feed}
 use Rattle.table.specs.declared.Counts.{Counts}
@@ -9,8 +9,6 @@ use Rattle.layer.specs.Step.{describe, step}
 use Rattle.script.specs.declared.Ask.TheVariants.{Receive, Status, Marks, ClearMarks}
 use Rattle.script.specs.declared.Command.{Command}
 use Rattle.script.specs.declared.Command.TheVariants.{Start, Stop, Send, Initialise, Object, Periodic, Indication, Confirm, Tick}
-use Rattle.script.specs.declared.Reading.{Reading}
-use Rattle.script.specs.declared.Reading.TheVariants.{Readable, Unreadable}
 use Rattle.script.specs.Reading.{fields_of, bytes_in, read_line}
 use Rattle.report.specs.Printing.{lends, answer_line, refusal_line}
 
@@ -50,9 +48,9 @@ pub data ScriptLine : Type 0 where
   readable : (command : Command) (bytes : List ℕ) → ScriptLine
   unreadable : ScriptLine
 
-abbrev pub line_as : Reading → List ℕ → ScriptLine
-line_as (Readable command) bytes = readable command bytes
-line_as Unreadable bytes = unreadable
+abbrev pub line_as : Option Command → List ℕ → ScriptLine
+line_as (Some command) bytes = readable command bytes
+line_as None bytes = unreadable
 
 abbrev pub line_of : List ℕ → ScriptLine
 line_of line = line_as (read_line line) (bytes_in (fields_of line))

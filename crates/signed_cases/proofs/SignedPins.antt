@@ -9,7 +9,7 @@ use Rattle.filter.specs.Filters.{passes, filter_of}
 use Rattle.table.specs.Records.{counts, ipdu_record, object_record}
 use Rattle.config.specs.Decode.{object_of}
 use Rattle.state.specs.Layout.{memory_size}
-use Rattle.calls.specs.declared.Answer.TheVariants.{Done}
+use Rattle.calls.specs.Answers.{done_with}
 use Rattle.calls.specs.Answers.{value_of}
 use Rattle.layer.specs.Step.{start, send, receive, indication, step}
 use Rattle.cases.specs.Case.{pair, send_ipdu, receive_ipdu, object_bytes, area}
@@ -89,7 +89,7 @@ requested = rw asked
 
 pub received : (step other (receive 0)
     (step other (indication 0 true (frame table 0 (step table (send 0 (below 2048) area) (step table start m).memory).area)) (memory_of other [] m)).memory).answer
-    ≡ Done (below 2048)
+    ≡ done_with (below 2048)
 unfolding value bytes_of part number_at integer less_than bit number extended read_back passes filter_of counts ipdu_record object_record advance
 received =
     (reading_round_trip table bytes [] m sender (send 0 (below 2048) area) (omega arith, none) 0 0 requested refl refl (λ n low. refl) other other_bytes [] m receiver 0

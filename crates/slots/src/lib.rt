@@ -9,14 +9,14 @@ ghost use Rattle.slots.specs.Orders.{order_of};
 
 use bits::{BitSize, Order};
 
-// 0 is little, anything else big.
+// 0 is little, anything else big: a number, since C passes one.
+#[tactic(auto, unfolding(crate::specs::Orders::order_of))]
 fn order_of(order: u32) -> Order
     ensures { result ≡ order_of order }
 {
-    if order == 0 {
-        Order::Little
-    } else {
-        Order::Big
+    match order {
+        0 => Order::Little,
+        _ => Order::Big,
     }
 }
 

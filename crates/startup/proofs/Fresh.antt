@@ -1,24 +1,19 @@
 -- What a start writes, step by step, whatever was there. The laws ask for plain values, so that a search finds them.
 -- Assumes nothing.
-use Rattle.std.proofs.Common.{List, ◌≡◌, ◌∙◌, ℕ, ◌+◌, ◌^◌, ◌≤◌, ◌<◌, arith, length, replicate}
+use Rattle.std.proofs.Common.{List, ◌≡◌, ℕ, ◌+◌, ◌^◌, ◌≤◌, ◌<◌, arith, length, replicate}
 use native.Mathlib.Numerals.{unary_clauses}
 use Rattle.memory.specs.Bytes.{bytes_of, replaced}
 use Rattle.memory.specs.Search.{fold}
 use Rattle.memory.proofs.Search.{turn_more}
 use Rattle.table.specs.declared.Counts.{Counts}
-use Rattle.config.specs.declared.Direction.TheVariants.{Send, Receive}
-use Rattle.config.specs.declared.Ipdu.{Ipdu}
 use Rattle.config.specs.declared.Object.{Object}
 use Rattle.table.specs.Check.{Right, depths}
 use Rattle.config.specs.Decode.{object_of}
-use Rattle.state.specs.declared.IpduState.{IpduState}
-use Rattle.state.specs.declared.ObjectState.{ObjectState}
-use Rattle.state.specs.Layout.{memory_size, with_running, with_ipdu_state, with_object_state}
+use Rattle.state.specs.Layout.{memory_size, with_running}
 use Rattle.state.proofs.Turns.{depth_sum}
-use Rattle.message.specs.Objects.{object, pack, Placed}
+use Rattle.message.specs.Objects.{object, Placed}
 use Rattle.message.proofs.ObjectsInRange.{right_placed}
-use Rattle.transmission.specs.Requests.{ipdu}
-use Rattle.startup.specs.Start.{blank, idle, first_timer, start_ipdu, unused, start_as, start_object, prepared, started}
+use Rattle.startup.specs.Start.{blank, start_ipdu, start_as, start_object, prepared, started}
 
 -- all bytes cleared, the I-PDUs' rows written, then the objects, then that the layer runs
 pub all_written : (t : List ℕ) (c : Counts) {size : ℕ} {zeros ipdus objects running : List ℕ} → size ≡ memory_size → zeros ≡ replicate size 0
@@ -28,17 +23,6 @@ unfolding started prepared blank with_running
 all_written t c size zeros ipdus objects running = rw (running, objects, ipdus, zeros, size)
 
 -- ---- one row more
-
-pub ipdus_more : (t : List ℕ) (k timer : ℕ) (m₀ m n : List ℕ) (p : Ipdu) (s : IpduState) → n ≡ with_ipdu_state m k s → s ≡ idle timer
-    → timer ≡ first_timer p.direction p → p ≡ ipdu t k → m ≡ fold k (start_ipdu t) m₀ → n ≡ fold (k + 1) (start_ipdu t) m₀
-ipdus_more t k timer m₀ m n p s sets idles times same so_far = turn_more (start_ipdu t) k m m₀ so_far n (rw (sets, idles, times, same))
-
-module _ (o : Object) (i first : ℕ) (m n : List ℕ) (s : ObjectState) (sets : n ≡ with_object_state m i s) where
-  pub starts_sent : (q : List ℕ) → o.direction ≡ Send → s ≡ unused 0 o.initial first → q ≡ pack o o.initial n → q ≡ start_as o.direction o i first m
-  starts_sent q sends clears packs = packs ∙ rw (sets, clears, sends)
-
-  pub starts_received : o.direction ≡ Receive → s ≡ unused o.initial o.initial first → n ≡ start_as o.direction o i first m
-  starts_received receives clears = rw (receives, sets, clears)
 
 module _ (t : List ℕ) (c : Counts) (i first : ℕ) (o : Object) (same : o ≡ object t c i) where
   pub starts_placed : (m₀ m : List ℕ) → Right t c → i < c.objects → memory_size ≤ length m₀ → length m ≡ length m₀ → Placed o m

@@ -12,7 +12,7 @@ use Rattle.state.specs.declared.ObjectState.{ObjectState}
 use Rattle.state.specs.Layout.{memory_size, with_running, with_ipdu_state, with_object_state}
 use Rattle.message.specs.Objects.{object, pack}
 use Rattle.transmission.specs.Requests.{ipdu}
-use Rattle.calls.specs.declared.Answer.TheVariants.{Done}
+use Rattle.calls.specs.Answers.{done_with}
 use Rattle.calls.specs.Answers.{Outcome, outcome}
 
 -- every byte without a meaning is 0
@@ -72,4 +72,4 @@ started t c = with_running (prepared t c) 1
 
 -- start writes the first 8,192 bytes, whatever was there
 abbrev pub start_in : List ℕ → Counts → List ℕ → Outcome
-start_in t c m = outcome (Done 0) (started t c) []
+start_in t c m = outcome (done_with 0) (started t c) []

@@ -1,8 +1,8 @@
 // What a start writes: all of working memory, from the table.
 #![tactic(auto)]
 
-ghost use Rattle.std.specs.Prelude.{◌≡◌, ◌+◌, ◌≤◌, ◌<◌, eqb, length};
-ghost use Rattle.memory.specs.Search.{pick, fold};
+ghost use Rattle.std.specs.Prelude.{◌≡◌, ◌+◌, ◌≤◌, ◌<◌, length};
+ghost use Rattle.memory.specs.Search.{fold};
 ghost use Rattle.table.specs.Check.{Shape, Right};
 ghost use Rattle.state.specs.Layout.{row_size, memory_size, object_row};
 ghost use Rattle.message.specs.Objects.{Placed};
@@ -24,19 +24,15 @@ pub fn write_all(t: &[u8], c: Counts, m: &mut [u8])
     memory::write8(m, RUNNING, 1);
 }
 
+#[tactic(auto, using(memory::proofs::Search::turn_more))]
 fn start_ipdus(t: &[u8], c: Counts, m: &mut [u8])
     requires shape { Shape t.now c }
     requires memory_size_in_bounds { memory_size ≤ length m.old }
     ensures { m.new ≡ fold c.ipdus (start_ipdu t.now) m.old }
 {
-    let n = c.ipdus;
-    let mut k = 0;
-    while k < n {
+    for k in 0..c.ipdus {
         let p = config::decode_ipdu(t, IpduNumber(k));
-        let direction = p.direction;
-        let timer = first_timer(direction, p);
-        state::set_ipdu_state(m, IpduNumber(k), idle(timer));
-        k += 1;
+        state::set_ipdu_state(m, IpduNumber(k), idle(first_timer(p)));
     }
 }
 
@@ -45,14 +41,11 @@ fn start_objects(t: &[u8], c: Counts, m: &mut [u8])
     requires memory_size_in_bounds { memory_size ≤ length m.old }
     ensures { m.new ≡ fold c.objects (start_object t.now c) m.old }
 {
-    let n = c.objects;
     let mut first = 0;
-    let mut i = 0;
-    while i < n {
+    for i in 0..c.objects {
         let o = config::decode_object(t, c.ipdus, ObjectNumber(i));
         start_object(m, ObjectNumber(i), o, first);
         first += o.depth;
-        i += 1;
     }
 }
 
@@ -62,8 +55,7 @@ fn start_object(m: &mut [u8], number: ObjectNumber, o: Object, first: u32)
     requires row_size_in_bounds { object_row number.0 + row_size ≤ length m.old }
     ensures { m.new ≡ start_as o.direction o number.0 first m.old }
 {
-    let direction = o.direction;
-    match direction {
+    match o.direction {
         Direction::Send => {
             state::set_object_state(m, number, unused(0, o.initial, first));
             message::pack(m, o, o.initial);
@@ -75,22 +67,16 @@ fn start_object(m: &mut [u8], number: ObjectNumber, o: Object, first: u32)
 }
 
 // The receive timer after a start.
-fn first_timer(direction: Direction, p: Ipdu) -> u32
-    ensures { result ≡ first_timer direction p }
+fn first_timer(p: Ipdu) -> u32
+    ensures { result ≡ first_timer p.direction p }
 {
-    match direction {
-        Direction::Send => 0,
-        Direction::Receive => first_or_next(p.first_deadline, p.deadline),
+    if p.direction == Direction::Send {
+        0
+    } else if p.first_deadline == 0 {
+        p.deadline
+    } else {
+        p.first_deadline
     }
-}
-
-fn first_or_next(first: u32, next: u32) -> u32
-    ensures { result ≡ pick (eqb first 0) next first }
-{
-    if first == 0 {
-        return next;
-    }
-    first
 }
 
 // The numbers of an I-PDU after a start.
@@ -104,7 +90,7 @@ fn idle(timer: u32) -> IpduState
         delay: 0,
         deadline: 0,
         countdown: 0,
-        timer: timer,
+        timer,
     }
 }
 
@@ -113,13 +99,13 @@ fn unused(value: u32, old: u32, queue: u32) -> ObjectState
     ensures { result ≡ unused value old queue }
 {
     ObjectState {
-        value: value,
-        old: old,
+        value,
+        old,
         occurrence: 0,
         marks: 0,
         overflow: 0,
         head: 0,
         count: 0,
-        queue: queue,
+        queue,
     }
 }

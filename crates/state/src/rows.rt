@@ -1,4 +1,5 @@
-// Reading and writing the stored numbers of one I-PDU or one object.
+// Reading and writing the stored numbers of one I-PDU or one object. A read and a write stand beside each other, a line for each
+// number: a list of places that both would follow is longer than the two, and would be gone through when a call runs.
 ghost use Rattle.std.specs.Prelude.{◌≡◌, ◌+◌, ◌*◌, ◌≤◌, length};
 ghost use Rattle.state.specs.Layout.{row_size, ipdu_row, ipdu_state, with_ipdu_state, object_row, object_state, with_object_state};
 
@@ -6,6 +7,7 @@ use super::{IPDU_ROWS, IpduState, OBJECT_ROWS, ObjectState};
 use table::{IpduNumber, ObjectNumber};
 
 // The stored numbers of an I-PDU.
+#[tactic(auto, unfolding(crate::specs::Layout::ipdu_state))]
 pub fn ipdu_state(m: &[u8], number: IpduNumber) -> IpduState
     requires { ipdu_row number.0 + row_size ≤ length m.now }
     ensures { result ≡ ipdu_state m.now number.0 }
@@ -23,6 +25,7 @@ pub fn ipdu_state(m: &[u8], number: IpduNumber) -> IpduState
 }
 
 // Stores the numbers of an I-PDU.
+#[tactic(auto, unfolding(crate::specs::Layout::with_ipdu_state))]
 pub fn set_ipdu_state(m: &mut [u8], number: IpduNumber, s: IpduState)
     requires { ipdu_row number.0 + row_size ≤ length m.old }
     ensures { m.new ≡ with_ipdu_state m.old number.0 s }
@@ -38,6 +41,7 @@ pub fn set_ipdu_state(m: &mut [u8], number: IpduNumber, s: IpduState)
 }
 
 // The stored numbers of an object.
+#[tactic(auto, unfolding(crate::specs::Layout::object_state))]
 pub fn object_state(m: &[u8], number: ObjectNumber) -> ObjectState
     requires { object_row number.0 + row_size ≤ length m.now }
     ensures { result ≡ object_state m.now number.0 }
@@ -56,6 +60,7 @@ pub fn object_state(m: &[u8], number: ObjectNumber) -> ObjectState
 }
 
 // Stores the numbers of an object.
+#[tactic(auto, unfolding(crate::specs::Layout::with_object_state))]
 pub fn set_object_state(m: &mut [u8], number: ObjectNumber, s: ObjectState)
     requires { object_row number.0 + row_size ≤ length m.old }
     ensures { m.new ≡ with_object_state m.old number.0 s }

@@ -1,7 +1,8 @@
 -- The check accepts a table exactly where it has no wrong record (`accepted_right`, `right_accepted`), and what such a table
 -- gives to its users: every I-PDU number, sending object and bit place in range, every filter usable.
 -- Assumes nothing.
-use Rattle.std.proofs.Common.{true, false, not, ◌&&◌, ◌||◌, List, ⊎_elim, ◌≡◌, refl, ap, ℕ, zero, suc, ◌%◌, ◌≤◌, ◌<◌, zero-le, arith, ltb-true, ltb-false, eqb-true, eq-eqb, le-ltb, ltb, eqb}
+use Rattle.std.proofs.Common.{Result, Ok, Err, true, false, not, ◌&&◌, ◌||◌, List, ⊎_elim, ◌≡◌, refl, ap, ℕ}
+use Rattle.std.proofs.Common.{zero, suc, ◌%◌, ◌≤◌, ◌<◌, zero-le, arith, ltb-true, ltb-false, eqb-true, eq-eqb, le-ltb, ltb, eqb}
 use borrow.Author.Tests.{not-false}
 use Rattle.memory.specs.Search.{least}
 use Rattle.memory.proofs.Search.{least_none, least_before, sum_more}
@@ -12,7 +13,8 @@ use Rattle.filter.specs.Filters.{greatest_count}
 use Rattle.filter.proofs.Laws.{right_count}
 use Rattle.table.specs.declared.Counts.{Counts}
 use Rattle.table.specs.declared.ObjectRecord.{ObjectRecord}
-use Rattle.table.specs.declared.Verdict.TheVariants.{Accepted, WrongHeader, WrongIpdu, WrongObject}
+use Rattle.table.specs.declared.WrongRecord.{WrongRecord}
+use Rattle.table.specs.declared.WrongRecord.TheVariants.{Header, Ipdu, Object}
 use Rattle.table.specs.Records.{most_queued, sending, counts, ipdu_record, object_record}
 use Rattle.table.specs.Rules.{header_right, order_of, references, without_ipdu, within_ipdu, record_filter}
 use Rattle.table.specs.Check.{wrong_ipdu, wrong_alone, depths, past_depth, wrong_object, check_objects, check_ipdus, check, Right}
@@ -21,7 +23,7 @@ use Rattle.table.proofs.Verdicts.{header_shape}
 
 -- ---- accepted where nothing is wrong
 
-pub right_accepted : (t : List ℕ) (c : Counts) → Right t c → check t ≡ Accepted c
+pub right_accepted : (t : List ℕ) (c : Counts) → Right t c → check t ≡ Ok c
 unfolding check
 right_accepted t c r =
     let ipdus : least c.ipdus (wrong_ipdu t) ≡ c.ipdus = least_none c.ipdus (wrong_ipdu t) (λ k h. ap not (r.ipdus k h)) in
@@ -54,18 +56,18 @@ module _ (t : List ℕ) where
       low (suc i) b =
           ltb-false most_queued (depths t c (suc i)) (or_split (wrong_alone t c i) (past_depth t c i) (objects i b)).1
 
-  pub accepted_right : (c : Counts) → check t ≡ Accepted c → Right t c
+  pub accepted_right : (c : Counts) → check t ≡ Ok c → Right t c
   unfolding check
   accepted_right c e = ⊎_elim header (λ h. absurd (wrong (rw h at e))) (true_or_false (header_right t))
     where
       d : Counts
       d = counts t
 
-      wrong : WrongHeader ≡ Accepted c → ⊥
+      wrong : Err Header ≡ Ok c → ⊥
       wrong f = let z : ◌≡◌ {A = ℕ} 0 1 = cc in omega arith
 
       objects : header_right t ≡ true → (k : ℕ) → k ≡ least d.ipdus (wrong_ipdu t) → d.ipdus ≤ k → (i : ℕ)
-          → i ≡ least d.objects (wrong_object t d) → check_objects t d i ≡ Accepted c → Right t c
+          → i ≡ least d.objects (wrong_object t d) → check_objects t d i ≡ Ok c → Right t c
       objects h k first past i least-i f =
           ⊎_elim
           (λ below. absurd (bad (rw below at f)))
@@ -78,13 +80,13 @@ module _ (t : List ℕ) where
           (λ j b. least_before d.objects (wrong_object t d) j (omega arith))))
           (true_or_false (ltb i d.objects))
         where
-          bad : WrongObject (record { 0 = i }) ≡ Accepted c → ⊥
+          bad : Err (Object (record { 0 = i })) ≡ Ok c → ⊥
           bad g = let z : ◌≡◌ {A = ℕ} 0 1 = cc in omega arith
 
-          accepted : Accepted d ≡ Accepted c → c ≡ d
+          accepted : ◌≡◌ {A = Result Counts WrongRecord} (Ok d) (Ok c) → c ≡ d
           accepted g = cc
 
-      ipdus : header_right t ≡ true → (k : ℕ) → k ≡ least d.ipdus (wrong_ipdu t) → check_ipdus t d k ≡ Accepted c → Right t c
+      ipdus : header_right t ≡ true → (k : ℕ) → k ≡ least d.ipdus (wrong_ipdu t) → check_ipdus t d k ≡ Ok c → Right t c
       ipdus h k first f =
           ⊎_elim
           (λ below. absurd (bad (rw below at f)))
@@ -92,7 +94,7 @@ module _ (t : List ℕ) where
           objects h k first (ltb-false k d.ipdus above) (least d.objects (wrong_object t d)) refl (rw above at f))
           (true_or_false (ltb k d.ipdus))
         where
-          bad : WrongIpdu (record { 0 = k }) ≡ Accepted c → ⊥
+          bad : Err (Ipdu (record { 0 = k })) ≡ Ok c → ⊥
           bad g = let z : ◌≡◌ {A = ℕ} 0 1 = cc in omega arith
 
       header : header_right t ≡ true → Right t c

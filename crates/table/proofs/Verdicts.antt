@@ -1,13 +1,15 @@
 -- From a right header to the table's shape, and from what the searches found to what the check answers.
 -- Assumes nothing.
-use Rattle.std.proofs.Common.{true, List, [], ◌∷◌, ⊎_elim, ◌≡◌, ℕ, ◌≤◌, ◌<◌, arith, leb-true, eqb-true, lt-ltb, le-ltb, ltb-true, leb, ltb, eqb, length}
+use Rattle.std.proofs.Common.{Ok, Err, true, List, [], ◌∷◌, ⊎_elim, ◌≡◌, ℕ, ◌≤◌, ◌<◌, arith, leb-true, eqb-true, lt-ltb, le-ltb, ltb-true, leb, ltb, eqb, length}
 use borrow.Author.Tests.{not-false}
 use Rattle.memory.specs.Bytes.{number_at}
 use Rattle.memory.specs.Search.{least}
 use Rattle.memory.proofs.Search.{least_before}
 use Rattle.memory.proofs.Tests.{and_split, each_true, true_or_false}
 use Rattle.table.specs.declared.Counts.{Counts}
-use Rattle.table.specs.declared.Verdict.TheVariants.{Accepted, WrongIpdu, WrongObject}
+use Rattle.table.specs.declared.IpduNumber.{IpduNumber}
+use Rattle.table.specs.declared.ObjectNumber.{ObjectNumber}
+use Rattle.table.specs.declared.WrongRecord.TheVariants.{Ipdu, Object}
 use Rattle.table.specs.Records.{most_ipdus, most_objects, ipdu_base, object_base, table_length, counts}
 use Rattle.table.specs.Rules.{offsets_right, header_right}
 use Rattle.table.specs.Check.{Shape, wrong_ipdu, wrong_object, check_objects, check_ipdus, check_records, check, place_of}
@@ -34,23 +36,25 @@ counts_shape t h e = rw e (header_shape t h)
 
 -- ---- what the check answers, from what the searches found
 
-pub none_found : (t : List ℕ) (c : Counts) (k : ℕ) → k ≡ least c.ipdus (wrong_ipdu t) → c.ipdus ≤ k → IpdusRight t c
-none_found t c k first none =
-    record { each = λ j low. not-false _ (least_before c.ipdus (wrong_ipdu t) j (omega (arith, first, none, low))) }
+pub none_found : (t : List ℕ) (c : Counts) → least c.ipdus (wrong_ipdu t) ≡ c.ipdus → IpdusRight t c
+none_found t c none =
+    record { each = λ j low. not-false _ (least_before c.ipdus (wrong_ipdu t) j (omega (arith, none, low))) }
 
-module _ (t : List ℕ) (c : Counts) (h : header_right t ≡ true) (here : c ≡ counts t) (k : ℕ) (first : k ≡ least c.ipdus (wrong_ipdu t)) where
-  pub names_ipdu : k < c.ipdus → WrongIpdu (record { 0 = k }) ≡ check t
+module _ (t : List ℕ) (c : Counts) (h : header_right t ≡ true) (here : c ≡ counts t) where
+  pub names_ipdu : {w : IpduNumber} → least c.ipdus (wrong_ipdu t) < c.ipdus → w ≡ record { 0 = least c.ipdus (wrong_ipdu t) } → Err (Ipdu w) ≡ check t
   unfolding check
-  names_ipdu wrong = rw (h, ← here, ← first, lt-ltb k c.ipdus wrong)
+  names_ipdu wrong named = rw (h, named, ← here, lt-ltb (least c.ipdus (wrong_ipdu t)) c.ipdus wrong)
 
-  pub names_object : c.ipdus ≤ k → (i : ℕ) → i ≡ least c.objects (wrong_object t c) → i < c.objects
-      → WrongObject (record { 0 = i }) ≡ check t
-  unfolding check
-  names_object none i e wrong = rw (h, ← here, ← first, le-ltb k c.ipdus none, ← e, lt-ltb i c.objects wrong)
+  module _ (none : least c.ipdus (wrong_ipdu t) ≡ c.ipdus) where
+    pub names_object : {w : ObjectNumber} → least c.objects (wrong_object t c) < c.objects
+        → w ≡ record { 0 = least c.objects (wrong_object t c) } → Err (Object w) ≡ check t
+    unfolding check
+    names_object wrong named =
+        rw (h, named, ← here, none, le-ltb c.ipdus c.ipdus (omega arith), lt-ltb (least c.objects (wrong_object t c)) c.objects wrong)
 
-  pub accepts : c.ipdus ≤ k → (i : ℕ) → i ≡ least c.objects (wrong_object t c) → c.objects ≤ i → Accepted c ≡ check t
-  unfolding check
-  accepts none i e right = rw (h, ← here, ← first, le-ltb k c.ipdus none, ← e, le-ltb i c.objects right)
+    pub accepts : least c.objects (wrong_object t c) ≡ c.objects → Ok c ≡ check t
+    unfolding check
+    accepts right = rw (h, ← here, none, le-ltb c.ipdus c.ipdus (omega arith), right, le-ltb c.objects c.objects (omega arith))
 
 -- a place is at most the header's
 pub place_bound : (t : List ℕ) → place_of (check t) ≤ 65535

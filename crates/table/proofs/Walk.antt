@@ -4,6 +4,7 @@ use Rattle.std.proofs.Common.{Bool, true, false, not, List, ◌≡◌, refl, sym
 use Rattle.memory.specs.Search.{least}
 use Rattle.memory.proofs.Search.{least_at, least_none}
 use Rattle.table.specs.declared.Counts.{Counts}
+use Rattle.table.specs.declared.ObjectNumber.{ObjectNumber}
 use Rattle.table.specs.Records.{most_queued, object_base, object_record_at, object_record}
 use Rattle.table.specs.Rules.{references, object_right}
 use Rattle.table.specs.Check.{wrong_alone, depths, past_depth, wrong_object}
@@ -12,30 +13,35 @@ use Rattle.table.proofs.Turns.{or_true}
 
 -- the first i objects are right, and depth is the sum of theirs
 pub record Passed (t : List ℕ) (c : Counts) (depth i : ℕ) : Type 0 where
-  pub within : i ≤ c.objects
   pub sum : depth ≡ depths t c i
   pub low : depth ≤ most_queued
   pub right : (j : ℕ) → j < i → wrong_object t c j ≡ false
 
 pub walk_starts : (t : List ℕ) (c : Counts) → Passed t c 0 0
-walk_starts t c = record { within = zero-le; sum = refl; low = zero-le; right = λ j h. absurd (omega arith) }
+walk_starts t c = record { sum = refl; low = zero-le; right = λ j h. absurd (omega arith) }
 
 module _ (t : List ℕ) (c : Counts) {depth i : ℕ} (p : Passed t c depth i) where
-  pub walk_ends : c.objects ≤ i → i ≡ least c.objects (wrong_object t c)
-  walk_ends end =
-      let all : i ≡ c.objects = omega (arith, p.within) in
-      all ∙ sym (least_none c.objects (wrong_object t c) (λ j h. p.right j (omega arith)))
+  pub walk_ends : c.objects ≤ i → least c.objects (wrong_object t c) ≡ c.objects
+  walk_ends end = least_none c.objects (wrong_object t c) (λ j h. p.right j (omega arith))
 
   module _ (h : i < c.objects) {right : Bool}
       (test : right ≡ object_right (object_record_at (object_base c.ipdus + 32 * i) t) (references t c (object_record_at (object_base c.ipdus + 32 * i) t))) where
-    named : wrong_object t c i ≡ true → i ≡ least c.objects (wrong_object t c)
-    named wrong = sym (least_at c.objects (wrong_object t c) i h p.right wrong)
+    -- the object is the one that is named
+    abbrev pub Named : Type 0
+    Named =
+        (least c.objects (wrong_object t c) < c.objects)
+        × ◌≡◌ {A = ObjectNumber} (record { 0 = i }) (record { 0 = least c.objects (wrong_object t c) })
+
+    named : wrong_object t c i ≡ true → Named
+    named wrong =
+        let same : least c.objects (wrong_object t c) ≡ i = least_at c.objects (wrong_object t c) i h p.right wrong in
+        rw same (h, refl)
 
     alone : wrong_alone t c i ≡ not right
     unfolding object_record
     alone = ap not (sym test)
 
-    pub ends_alone : right ≡ false → i ≡ least c.objects (wrong_object t c)
+    pub ends_alone : right ≡ false → Named
     ends_alone wrong = named (rw (alone, wrong))
 
     module _ {d : ℕ} (here : d ≡ (object_record_at (object_base c.ipdus + 32 * i) t).depth) where
@@ -44,7 +50,7 @@ module _ (t : List ℕ) (c : Counts) {depth i : ℕ} (p : Passed t c depth i) wh
       sum = rw (p.sum, here)
 
       -- the code's limit is the definition's, or above it; that it is no higher is what `walk_goes_on` asks for
-      pub ends_past_depth : {limit : ℕ} → leb most_queued limit ≡ true → limit < depth + d → i ≡ least c.objects (wrong_object t c)
+      pub ends_past_depth : {limit : ℕ} → leb most_queued limit ≡ true → limit < depth + d → Named
       ends_past_depth {limit} enough past =
           let over : most_queued < depth + d = omega (arith, leb-true most_queued limit enough, past) in
           named (or_true (wrong_alone t c i) (past_depth t c i) (lt-ltb _ _ (rw sum at over)))
@@ -58,7 +64,6 @@ module _ (t : List ℕ) (c : Counts) {depth i : ℕ} (p : Passed t c depth i) wh
         pub walk_goes_on : depth + d ≤ most_queued → Passed t c (depth + d) (i + 1)
         walk_goes_on low =
             record {
-              within = omega arith;
               sum = sum ∙ ap (depths t c) (sym (add-one i));
               low = low;
               right = below_more (λ (j : ℕ). wrong_object t c j ≡ false) i p.right (rw (alone, left) (le-ltb _ _ (rw sum at low)));

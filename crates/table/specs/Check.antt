@@ -1,10 +1,10 @@
 -- Document 01, "The table", with W-205: what the check names. The first wrong record, in the order header, I-PDUs, objects.
 -- Assumes nothing.
-use Rattle.std.specs.Prelude.{Bool, true, not, ◌||◌, List, ◌≡◌, ℕ, suc, ◌+◌, ◌≤◌, ◌<◌, ltb, length}
+use Rattle.std.specs.Prelude.{Bool, true, not, ◌||◌, List, Result, Ok, Err, ◌≡◌, ℕ, suc, ◌+◌, ◌≤◌, ◌<◌, ltb, length}
 use Rattle.memory.specs.Search.{pick, least, sum_below}
 use Rattle.table.specs.declared.Counts.{Counts}
-use Rattle.table.specs.declared.Verdict.{Verdict}
-use Rattle.table.specs.declared.Verdict.TheVariants.{Accepted, WrongHeader, WrongIpdu, WrongObject}
+use Rattle.table.specs.declared.WrongRecord.{WrongRecord}
+use Rattle.table.specs.declared.WrongRecord.TheVariants.{Header, Ipdu, Object}
 use Rattle.table.specs.Records.{most_ipdus, most_objects, most_queued, table_length, counts, ipdu_record, object_record}
 use Rattle.table.specs.Rules.{header_right, ipdu_right, references, object_right}
 
@@ -38,18 +38,18 @@ wrong_object t c i = wrong_alone t c i || past_depth t c i
 
 -- ---- the first wrong record: the header, else the lowest I-PDU, else the lowest object
 
-abbrev pub check_objects : List ℕ → Counts → ℕ → Verdict
-check_objects t c i = pick (ltb i c.objects) (WrongObject (record { 0 = i })) (Accepted c)
+abbrev pub check_objects : List ℕ → Counts → ℕ → Result Counts WrongRecord
+check_objects t c i = pick (ltb i c.objects) (Err (Object (record { 0 = i }))) (Ok c)
 
-abbrev pub check_ipdus : List ℕ → Counts → ℕ → Verdict
+abbrev pub check_ipdus : List ℕ → Counts → ℕ → Result Counts WrongRecord
 check_ipdus t c k =
-    pick (ltb k c.ipdus) (WrongIpdu (record { 0 = k })) (check_objects t c (least c.objects (wrong_object t c)))
+    pick (ltb k c.ipdus) (Err (Ipdu (record { 0 = k }))) (check_objects t c (least c.objects (wrong_object t c)))
 
-abbrev pub check_records : List ℕ → Counts → Verdict
+abbrev pub check_records : List ℕ → Counts → Result Counts WrongRecord
 check_records t c = check_ipdus t c (least c.ipdus (wrong_ipdu t))
 
-unfoldable pub check : List ℕ → Verdict
-check t = pick (header_right t) (check_records t (counts t)) WrongHeader
+unfoldable pub check : List ℕ → Result Counts WrongRecord
+check t = pick (header_right t) (check_records t (counts t)) (Err Header)
 
 -- ---- a table with no wrong record
 pub record Right (t : List ℕ) (c : Counts) : Type 0 where
@@ -61,14 +61,12 @@ pub record Right (t : List ℕ) (c : Counts) : Type 0 where
   pub depth : depths t c c.objects ≤ most_queued
 
 -- ---- document 01's number for an answer, and what it returns: 5 with the place, 0 with 0
-abbrev pub number_of : Verdict → ℕ
-number_of (Accepted c) = 0
-number_of WrongHeader = 5
-number_of (WrongIpdu k) = 5
-number_of (WrongObject i) = 5
+abbrev pub number_of : Result Counts WrongRecord → ℕ
+number_of (Ok c) = 0
+number_of (Err wrong) = 5
 
-abbrev pub place_of : Verdict → ℕ
-place_of (Accepted c) = 0
-place_of WrongHeader = 65535
-place_of (WrongIpdu k) = k.0
-place_of (WrongObject i) = 256 + i.0
+abbrev pub place_of : Result Counts WrongRecord → ℕ
+place_of (Ok c) = 0
+place_of (Err Header) = 65535
+place_of (Err (Ipdu k)) = k.0
+place_of (Err (Object i)) = 256 + i.0

@@ -19,7 +19,8 @@ pub const MOST_QUEUED: u32 = 512;
 
 pub const NONE: u32 = 255;
 
-// The kind of a send object and the direction of a send I-PDU; of a receive object and a receive I-PDU.
+// The kind of a send object and the direction of a send I-PDU; of a receive object and a receive I-PDU. They are numbers of raw records,
+// as `IpduRecord` and `ObjectRecord` have them; `config::Direction` is what they mean in a table that was accepted.
 pub const SENDING: u32 = 1;
 
 pub const RECEIVING: u32 = 2;
@@ -34,13 +35,14 @@ pub const OBJECT_SIZE: usize = 32;
 pub const LARGEST: usize = 4624;
 
 // The number of a message object, and of an I-PDU: counted separately.
-#[derive(Clone, Copy)]
+#[derive(Clone, Copy, PartialEq, Eq, Debug)]
 pub struct ObjectNumber(pub u32);
 
-#[derive(Clone, Copy)]
+#[derive(Clone, Copy, PartialEq, Eq, Debug)]
 pub struct IpduNumber(pub u32);
 
-// How many I-PDUs and objects a table has, from its header.
+// How many I-PDUs and objects a table has, from its header. A table's bytes and its counts are passed apart. A struct of both was tried: it
+// takes one clause from 16 of 36 functions, the clauses name both by a path and get a fifth longer, and no proof gets shorter.
 #[derive(Clone, Copy)]
 pub struct Counts {
     pub ipdus: u32,
@@ -91,11 +93,10 @@ pub struct References {
     pub sender_kind: u32,
 }
 
-// What the check answers: the counts of a right table, or its first wrong record.
-#[derive(Clone, Copy)]
-pub enum Verdict {
-    Accepted(Counts),
-    WrongHeader,
-    WrongIpdu(IpduNumber),
-    WrongObject(ObjectNumber),
+// The first wrong record of a table, which the check names.
+#[derive(Clone, Copy, PartialEq, Eq, Debug)]
+pub enum WrongRecord {
+    Header,
+    Ipdu(IpduNumber),
+    Object(ObjectNumber),
 }

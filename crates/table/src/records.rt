@@ -7,6 +7,7 @@ use super::{
 };
 
 // The counts of the header.
+#[tactic(auto, unfolding(crate::specs::Records::counts))]
 pub fn header_counts(t: &[u8]) -> Counts
     requires { 16 ≤ length t.now }
     ensures { result ≡ counts t.now }
@@ -18,6 +19,7 @@ pub fn header_counts(t: &[u8]) -> Counts
 }
 
 // The record of an I-PDU.
+#[tactic(auto, unfolding(crate::specs::Records::ipdu_record))]
 pub fn ipdu_record(t: &[u8], number: IpduNumber) -> IpduRecord
     requires { 16 + 16 * number.0 + 16 ≤ length t.now }
     ensures { result ≡ ipdu_record t.now number.0 }
@@ -39,6 +41,7 @@ pub fn ipdu_record(t: &[u8], number: IpduNumber) -> IpduRecord
 }
 
 // The record of an object in a table of so many I-PDUs.
+#[tactic(auto, unfolding(crate::specs::Records::object_record))]
 pub fn object_record(t: &[u8], ipdus: u32, number: ObjectNumber) -> ObjectRecord
     requires { object_base ipdus + 32 * number.0 + 32 ≤ length t.now }
     ensures { result ≡ object_record t.now ipdus number.0 }

@@ -1,5 +1,6 @@
 // When the header and a record are right by themselves. A record is read where it lies, from byte `a` of the table on, each byte
-// where a rule first asks for it, and bytes that have to be zero together with their neighbours.
+// where a rule first asks for it, and bytes that have to be zero together with their neighbours. A rule is a test that returns, so that each
+// has a law of its own.
 ghost use Rattle.std.specs.Prelude.{◌||◌, ◌≡◌, ◌+◌, ◌*◌, ◌≤◌, ◌<◌, ltb, eqb, length};
 ghost use Rattle.memory.specs.Search.{pick};
 ghost use Rattle.table.specs.Records.{sending, receiving, absent, ipdu_record_at, object_record_at, object_record};
@@ -14,6 +15,7 @@ use super::{
 use bits::{BitSize, ByteLength, Order};
 
 // Whether the header is right, for a slice of any length.
+#[tactic(auto, unfolding(crate::specs::Rules::header_right))]
 pub fn header_right(t: &[u8]) -> bool
     ensures { result ≡ header_right t.now }
 {
@@ -23,6 +25,7 @@ pub fn header_right(t: &[u8]) -> bool
     offsets_right(t, super::header_counts(t))
 }
 
+#[tactic(auto, unfolding(crate::specs::Rules::offsets_right))]
 fn offsets_right(t: &[u8], c: Counts) -> bool
     requires { 16 ≤ length t.now }
     ensures { result ≡ offsets_right t.now c }
@@ -42,6 +45,7 @@ fn offsets_right(t: &[u8], c: Counts) -> bool
 }
 
 // Whether an I-PDU record is right.
+#[tactic(auto, unfolding(crate::specs::Rules::ipdu_right))]
 pub fn ipdu_right(t: &[u8], a: usize) -> bool
     requires { a + 16 ≤ length t.now }
     ensures { result ≡ ipdu_right (ipdu_record_at a t.now) }
@@ -109,7 +113,8 @@ fn receive_ipdu(t: &[u8], a: usize) -> bool
     memory::read16(t, a + 10) != 0
 }
 
-// The byte order that byte 5 of an object record stands for; from 2 on it is that of a signed object.
+// The byte order that byte 5 of an object record stands for; from 2 on it is that of a signed object. Any number is one, so that
+// a conversion that may fail says no more.
 pub fn order_of(order: u32) -> Order
     ensures { result ≡ order_of order }
 {
@@ -175,6 +180,7 @@ fn within_ipdu(t: &[u8], c: Counts, a: usize, number: IpduNumber) -> bool
 }
 
 // The bits of an object in an I-PDU of this length.
+#[tactic(auto, unfolding(crate::specs::Inner::place_field))]
 fn place_right(t: &[u8], a: usize, bytes: ByteLength) -> bool
     requires { (a + 32 ≤ length t.now) × (bytes.0 ≤ 8) }
     ensures { result ≡ place_field (object_record_at a t.now) bytes.0 }
@@ -254,6 +260,7 @@ fn without_ipdu(t: &[u8], c: Counts, a: usize) -> bool
 }
 
 // A sender is none, or one of the table's send objects.
+#[tactic(auto, unfolding(crate::specs::Records::object_record))]
 fn sender_right(t: &[u8], c: Counts, sender: u32) -> bool
     requires { Shape t.now c }
     ensures { result ≡ (eqb sender absent || eqb (pick (ltb sender c.objects) (object_record t.now c.ipdus sender).kind 0) sending) }

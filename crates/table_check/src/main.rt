@@ -4,7 +4,6 @@
 ghost use Rattle.std.specs.Prelude.{◌≤◌, length};
 
 use std::io::Read;
-use table::Verdict;
 
 // One byte more than the largest table: whatever is longer is a wrong header, as that much of it is.
 const ROOM: usize = table::LARGEST + 1;
@@ -15,12 +14,13 @@ fn main(rt: HostRuntime) {
     let n = read_full(&mut rt.stdin(), &mut buffer);
     let verdict = table::check(&buffer[..n]);
     let _ = match verdict {
-        Verdict::Accepted(c) => println!(rt; "ok {} {}", c.ipdus, c.objects),
-        _ => println!(rt; "bad {}", table::place_of(verdict)),
+        Ok(c) => println!(rt; "ok {} {}", c.ipdus, c.objects),
+        Err(_) => println!(rt; "bad {}", table::place_of(verdict)),
     };
 }
 
-// Reads until `bytes` is full, the input ends or a read fails.
+// Reads until `bytes` is full, the input ends or a read fails; a while, since only a read tells how much it gave. `files::fill` does not serve
+// here: what was read before a failed read counts, and an error there has no count with it.
 fn read_full(input: &mut impl Read, bytes: &mut [u8]) -> usize
     ensures { result ≤ length bytes.new }
 {

@@ -1,24 +1,14 @@
--- The period of one I-PDU in its turn. The laws ask for plain values, so that a search finds them. Assumes nothing.
-use Rattle.std.proofs.Common.{Bool, true, false, List, ⊎_elim, ◌≡◌, sym, ◌∙◌, ℕ, zero, suc, ◌+◌, ◌≤◌, ◌<◌, le_refl, arith}
+-- The search for I-PDUs with a period. The laws ask for plain values, so that a search finds them. Assumes nothing.
+use Rattle.std.proofs.Common.{Bool, false, List, ⊎_elim, ◌≡◌, sym, ◌∙◌, ℕ, zero, suc, ◌+◌, ◌≤◌, ◌<◌, le_refl, arith}
 use Rattle.memory.specs.Search.{fold}
 use Rattle.memory.proofs.Search.{turn_more}
 use Rattle.memory.proofs.Tests.{eq_or_ne}
 use Rattle.config.specs.declared.Ipdu.{Ipdu}
-use Rattle.state.specs.declared.IpduState.{IpduState}
-use Rattle.state.specs.Layout.{ipdu_state, with_ipdu_state}
 use Rattle.transmission.specs.Requests.{ipdu}
-use Rattle.timing.specs.Periods.{has_period, period_set, period_turn}
+use Rattle.timing.specs.Periods.{has_period, period_turn}
 use Rattle.timing.specs.Inner.{NextPeriod}
 
-module _ (on : Bool) (t : List ℕ) (k : ℕ) (m : List ℕ) (p : Ipdu) (found : Bool) (same : p ≡ ipdu t k) (e : found ≡ has_period p.mode) where
-  pub no_period : found ≡ false → m ≡ period_turn on t k m
-  no_period failed = rw (← same, sym e ∙ failed)
-
-  pub period_set_lem : (n : List ℕ) (s next : IpduState) → found ≡ true → s ≡ ipdu_state m k → next ≡ period_set on p s → n ≡ with_ipdu_state m k next
-      → n ≡ period_turn on t k m
-  period_set_lem n s next passed row sets stores = rw (← same, sym e ∙ passed, stores, sets, row)
-
--- ---- the search: none passed, one more, the end; and what a turn of those passed leaves
+-- ---- none passed, one more, the end; and what a turn of those passed leaves
 
 module _ (t : List ℕ) (from : ℕ) where
   pub none_before : {n : ℕ} → from ≤ n → NextPeriod t from n from

@@ -1,13 +1,12 @@
 -- Demand 3 (a) over lists with groups: a group follows the book as its sends do, and each action of a list is kept. The single calls that a
 -- list stands for leave the same memory and book.
 -- Assumes: the table holds bytes, and arguments are of the types that the calls take (`TypedAction`).
-use Rattle.std.proofs.Common.{Bool, true, false, List, [], ◌∷◌, ◌++◌, ⊎_elim, ◌≡◌, refl, sym, ap, ◌∙◌, ℕ, ne_eqb}
+use Rattle.std.proofs.Common.{Bool, true, false, List, [], ◌∷◌, ◌++◌, ⊎_elim, ◌≡◌, refl, sym, ap, ◌∙◌, ℕ, ne_eqb, Ok}
 use Rattle.memory.specs.Bytes.{Bytes}
 use Rattle.memory.specs.Search.{pick}
 use Rattle.memory.proofs.Search.{picked}
 use Rattle.memory.proofs.Tests.{true_not_false}
 use Rattle.table.specs.declared.Counts.{Counts}
-use Rattle.table.specs.declared.Verdict.TheVariants.{Accepted}
 use Rattle.table.specs.Check.{check}
 use Rattle.calls.specs.Answers.{number_of}
 use Rattle.layer.specs.Step.{Call, step, memory_after}
@@ -20,7 +19,7 @@ use Rattle.trace.proofs.Steps.{Follows, step_follows, list_follows}
 use Rattle.trace.proofs.KeptLists.{call_kept, list_kept}
 use Rattle.trace.proofs.GroupSends.{sends_ran, GroupDoes, sends, refuses, group_does}
 
-module _ (t : List ℕ) (c : Counts) (accepted : check t ≡ Accepted c) (bt : Bytes t) where
+module _ (t : List ℕ) (c : Counts) (accepted : check t ≡ Ok c) (bt : Bytes t) where
   module _ (b : Book) (m : List ℕ) (f : Follows t c b m) where
     -- ---- a group
 
@@ -121,7 +120,7 @@ module _ (t : List ℕ) (c : Counts) where
       by true = refl
       by false = refl
 
-  module _ (accepted : check t ≡ Accepted c) (bt : Bytes t) where
+  module _ (accepted : check t ≡ Ok c) (bt : Bytes t) where
     pub expanded_memory : (xs : List Action) → ActionsTyped xs → (b : Book) (m : List ℕ) → Follows t c b m → memory_after_all t xs m ≡ memory_after t (expanded t c b xs) m
     expanded_memory [] y b m f = refl
     expanded_memory (single call ∷ xs) y b m f =

@@ -1,11 +1,10 @@
 -- Demand 3 (b) over lists with groups: groups alike give the same number, word, statuses and frames, and leave memories and books alike.
 -- Assumes: the table holds bytes, and arguments are of the types that the calls take (`TypedAction`).
-use Rattle.std.proofs.Common.{Bool, true, false, List, [], ◌∷◌, inl, inr, ⊎_elim, ◌≡◌, refl, sym, ap, ap₂, subst, ◌∙◌, ℕ, suc, bit_or, length}
+use Rattle.std.proofs.Common.{Bool, true, false, List, [], ◌∷◌, inl, inr, ⊎_elim, ◌≡◌, refl, sym, ap, ap₂, subst, ◌∙◌, ℕ, suc, bit_or, length, Ok}
 use Rattle.memory.specs.Bytes.{Bytes}
 use Rattle.memory.specs.Search.{pick}
 use Rattle.memory.proofs.Tests.{true_not_false}
 use Rattle.table.specs.declared.Counts.{Counts}
-use Rattle.table.specs.declared.Verdict.TheVariants.{Accepted}
 use Rattle.table.specs.Check.{check}
 use Rattle.calls.specs.Answers.{Outcome, number_of, value_of}
 use Rattle.layer.specs.Admission.{working_memory}
@@ -85,7 +84,7 @@ as_many t c b d (p ∷ ps) [] area other a = absurd a
 as_many t c b d (p ∷ ps) (q ∷ qs) area other a =
     ap suc (as_many t c (advance t c b (send p.object p.value area)) (advance t c d (send q.object q.value other)) ps qs area other a.1)
 
-module _ (t : List ℕ) (c : Counts) (accepted : check t ≡ Accepted c) (bt : Bytes t) where
+module _ (t : List ℕ) (c : Counts) (accepted : check t ≡ Ok c) (bt : Bytes t) where
   module _ (b : Book) (m n : List ℕ) (f : Follows t c b m) (e : Follows t c b n) (alike : working_memory m ≡ working_memory n) where
     record ActionStep (x y : Action) : Type 0 where
       same : SameAction t x y m n

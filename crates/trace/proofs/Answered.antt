@@ -1,6 +1,6 @@
 -- What a call answers once it is admitted: refused, it leaves all lent bytes; and it answers no 6.
 -- Assumes nothing.
-use Rattle.std.proofs.Common.{Bool, true, false, not, ◌&&◌, List, [], ◌≡◌, refl, ℕ, arith, ltb, eqb, length}
+use Rattle.std.proofs.Common.{Bool, true, false, not, ◌&&◌, List, [], ◌≡◌, refl, ℕ, arith, ltb, eqb, length, Err}
 use Rattle.memory.specs.Search.{pick}
 use Rattle.memory.proofs.Search.{picked}
 use Rattle.table.specs.declared.Counts.{Counts}
@@ -9,8 +9,9 @@ use Rattle.state.specs.Layout.{object_state, ipdu_state}
 use Rattle.message.specs.Objects.{object, passes_filter}
 use Rattle.queue.specs.Queues.{oldest, dequeue}
 use Rattle.delivery.specs.Delivery.{deliver_inside}
-use Rattle.calls.specs.declared.Answer.{Answer}
-use Rattle.calls.specs.declared.Answer.TheVariants.{Done, WrongId, WrongLength, Limit, NoMessage, NotRequested}
+use Rattle.calls.specs.Answers.{Answer}
+use Rattle.calls.specs.Answers.{done_with, limit_with}
+use Rattle.calls.specs.declared.Refusal.TheVariants.{WrongId, WrongLength, NoMessage, NotRequested}
 use Rattle.calls.specs.Answers.{Outcome, outcome, number_of}
 use Rattle.calls.specs.Calls.{is_object, is_ipdu, wants, request, send_of, send_in, initialise_in, receive_in, status_in, marks_in, clear_marks_in, indication_in, confirm_in}
 use Rattle.layer.specs.Step.{Call, send, initialise, receive, status, marks, clear_marks, indication, confirm}
@@ -21,14 +22,14 @@ pub record Answered (call : Call) (m area : List ℕ) (o : Outcome) : Type 0 whe
   pub not_six : number_of o.answer ≡ 6 → ⊥
 
 module _ (call : Call) (m area : List ℕ) where
-  pub did : (v : ℕ) (n other : List ℕ) → Answered call m area (outcome (Done v) n other)
+  pub did : (v : ℕ) (n other : List ℕ) → Answered call m area (outcome (done_with v) n other)
   did v n other = record { leaves = λ r. absurd (r.0 refl); not_six = λ e. omega (arith, e) }
 
   as_found : (a : Answer) → (number_of a ≡ 6 → ⊥) → Answered call m area (outcome a m area)
   as_found a six = record { leaves = λ r. record { memory = refl; area = refl }; not_six = six }
 
-  wrong_id : Answered call m area (outcome WrongId m area)
-  wrong_id = as_found WrongId (λ e. omega (arith, e))
+  wrong_id : Answered call m area (outcome (Err WrongId) m area)
+  wrong_id = as_found (Err WrongId) (λ e. omega (arith, e))
 
   either : (b : Bool) (x y : Outcome) → Answered call m area x → Answered call m area y → Answered call m area (pick b x y)
   either b x y p q = picked (Answered call m area) b x y (λ e. p) (λ e. q)
@@ -53,7 +54,7 @@ module _ (t : List ℕ) (c : Counts) (m : List ℕ) where
       either call m [] (ltb i c.objects) _ _ (did call m [] 0 _ []) (wrong_id call m [])
 
   -- a receive that gives 3 is not refused
-  limited_answered : (i v : ℕ) (n : List ℕ) (b : Bool) → Answered (receive i) m [] (outcome (pick b (Done v) (Limit v)) n [])
+  limited_answered : (i v : ℕ) (n : List ℕ) (b : Bool) → Answered (receive i) m [] (outcome (pick b (done_with v) (limit_with v)) n [])
   limited_answered i v n true = did (receive i) m [] v n []
   limited_answered i v n false = record { leaves = λ r. absurd (r.1 refl i refl); not_six = λ e. omega (arith, e) }
 
@@ -63,11 +64,11 @@ module _ (t : List ℕ) (c : Counts) (m : List ℕ) where
       let call = receive i in
       either call m [] (is_object t c receiving i) _ _
       (either call m [] (eqb (object_record t c.ipdus i).depth 0) _ _ (did call m [] _ _ _)
-      (either call m [] (eqb (object_state m i).count 0) _ _ (as_found call m [] NoMessage (λ e. omega (arith, e)))
+      (either call m [] (eqb (object_state m i).count 0) _ _ (as_found call m [] (Err NoMessage) (λ e. omega (arith, e)))
       (limited_answered i (oldest (object_record t c.ipdus i).depth i m) (dequeue (object_record t c.ipdus i).depth i m) (eqb (object_state m i).overflow 0))))
       (wrong_id call m [])
 
-  status_six : (a b : Bool) → number_of (pick a NoMessage (pick b (Done 0) (Limit 0))) ≡ 6 → ⊥
+  status_six : (a b : Bool) → number_of (pick a (Err NoMessage) (pick b (done_with 0) (limit_with 0))) ≡ 6 → ⊥
   status_six true b e = omega (arith, e)
   status_six false true e = omega (arith, e)
   status_six false false e = omega (arith, e)
@@ -97,7 +98,7 @@ module _ (t : List ℕ) (c : Counts) (m : List ℕ) where
   indication_answered k true bytes =
       let call = indication k true bytes in
       either call m [] (is_ipdu t c receiving k) _ _
-      (either call m [] (eqb (length bytes) (ipdu_record t k).length) _ _ (did call m [] 0 _ _) (as_found call m [] WrongLength (λ e. omega (arith, e))))
+      (either call m [] (eqb (length bytes) (ipdu_record t k).length) _ _ (did call m [] 0 _ _) (as_found call m [] (Err WrongLength) (λ e. omega (arith, e))))
       (wrong_id call m [])
   indication_answered k false bytes =
       let call = indication k false bytes in
@@ -108,5 +109,5 @@ module _ (t : List ℕ) (c : Counts) (m : List ℕ) where
   confirm_answered k good =
       let call = confirm k good in
       either call m [] (is_ipdu t c sending k) _ _
-      (either call m [] (eqb (ipdu_state m k).requested 0) _ _ (as_found call m [] NotRequested (λ e. omega (arith, e))) (did call m [] 0 _ _))
+      (either call m [] (eqb (ipdu_state m k).requested 0) _ _ (as_found call m [] (Err NotRequested) (λ e. omega (arith, e))) (did call m [] 0 _ _))
       (wrong_id call m [])

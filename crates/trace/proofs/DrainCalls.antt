@@ -1,6 +1,7 @@
 -- A drain leaves working memory as its receives, marks and clear marks, one after the other, do (`drain_memory`); a refused one leaves it. These
 -- calls tell the book nothing (`all_about_book`). Assumes nothing.
-use Rattle.std.proofs.Common.{Bool, true, false, ◌&&◌, List, [], ◌∷◌, ◌++◌, ⊎_elim, ◌≡◌, refl, sym, ap, ap₂, ◌∙◌, ℕ, zero, suc, ◌≤◌, arith, eqb-true, leb, ltb, eqb, length, drop, take-append-drop}
+use Rattle.std.proofs.Common.{Bool, true, false, ◌&&◌, List, [], ◌∷◌, ◌++◌, ⊎_elim, ◌≡◌, refl, sym, ap, ap₂}
+use Rattle.std.proofs.Common.{◌∙◌, ℕ, zero, suc, ◌≤◌, arith, eqb-true, leb, ltb, eqb, length, drop, take-append-drop, Ok, Err}
 use borrow.Author.Tests.{eqb-false}
 use Rattle.memory.specs.Bytes.{Bytes}
 use Rattle.memory.specs.Search.{pick, fold}
@@ -10,8 +11,7 @@ use Rattle.table.specs.declared.Counts.{Counts}
 use Rattle.state.specs.Layout.{memory_size}
 use Rattle.calls.specs.Answers.{Outcome, number_of, value_of}
 use Rattle.calls.specs.Calls.{marks_in}
-use Rattle.layer.specs.declared.Admission.{Admission}
-use Rattle.layer.specs.declared.Admission.TheVariants.{Admitted, Refused}
+use Rattle.layer.specs.Admission.{Admission}
 use Rattle.layer.specs.declared.Reply.{Reply}
 use Rattle.layer.specs.Admission.{if_admitted}
 use Rattle.layer.specs.Promises.{refusal, received, marks_read, marks_cleared, waiting_for, reads_signed}
@@ -129,10 +129,10 @@ module _ (t : List ℕ) (i : ℕ) where
   marks_memory m = by (admission_for (describe (marks i)) t m)
     where
       by : (a : Admission) → (if_admitted a m [] (λ c. marks_in c i)).memory ≡ m
-      by (Admitted c) =
+      by (Ok c) =
           picked (λ (o : Outcome). o.memory ++ drop memory_size m ≡ m) (ltb i c.objects) _ _
           (λ e. take-append-drop memory_size m) (λ e. take-append-drop memory_size m)
-      by (Refused a) = refl
+      by (Err a) = refl
 
   cleared_memory : (seen : Bool) (m : List ℕ) → pick seen (step t (clear_marks i) m).memory m ≡ memory_after t (pick seen (clear_marks i ∷ []) []) m
   cleared_memory true m = refl

@@ -1,7 +1,7 @@
 -- A group beside its sends, each lent the group's area: the same memory, numbers and words, and the frames of the latest sends that ask
 -- for them.
 -- Assumes: the table holds bytes, and a value that is sent has 32 bits (`Typed`).
-use Rattle.std.proofs.Common.{Bool, true, false, List, [], ◌∷◌, ◌++◌, append-nil, ◌⊎◌, inl, inr, ⊎_elim, ◌≡◌, refl, sym, ap, subst, ◌∙◌, ℕ, ◌*◌, ◌^◌, ◌≤◌, ◌<◌, arith, leb-true}
+use Rattle.std.proofs.Common.{Bool, true, false, List, [], ◌∷◌, ◌++◌, append-nil, ◌⊎◌, inl, inr, ⊎_elim, ◌≡◌, refl, sym, ap, subst, ◌∙◌, ℕ, ◌*◌, ◌^◌, ◌≤◌, ◌<◌, arith, leb-true, Ok, Err}
 use Rattle.std.proofs.Common.{bit_or, leb, length, drop}
 use Rattle.memory.specs.Bytes.{Bytes, part}
 use Rattle.memory.specs.Search.{pick}
@@ -9,16 +9,14 @@ use Rattle.memory.proofs.Tests.{eq_or_ne, true_not_false}
 use Rattle.bits.specs.Bits.{bit}
 use Rattle.bits.proofs.Numbers.{bit_lt, or_bit}
 use Rattle.table.specs.declared.Counts.{Counts}
-use Rattle.table.specs.declared.Verdict.TheVariants.{Accepted}
 use Rattle.table.specs.Records.{ipdu_record}
 use Rattle.table.specs.Check.{check}
 use Rattle.state.specs.Layout.{memory_size, area_size, slot_at}
-use Rattle.calls.specs.declared.Answer.{Answer}
-use Rattle.calls.specs.declared.Answer.TheVariants.{WrongLength, WrongMemory, Stopped}
+use Rattle.calls.specs.Answers.{Answer}
+use Rattle.calls.specs.declared.Refusal.TheVariants.{WrongLength, WrongMemory, Stopped}
 use Rattle.calls.specs.Answers.{Outcome, number_of, value_of}
 use Rattle.calls.proofs.Records.{ipdu_short}
-use Rattle.layer.specs.declared.Admission.{Admission}
-use Rattle.layer.specs.declared.Admission.TheVariants.{Admitted, Refused}
+use Rattle.layer.specs.Admission.{Admission}
 use Rattle.layer.specs.Admission.{working_memory, admission, if_admitted}
 use Rattle.layer.specs.Step.{send, describe, step, run, memory_after}
 use Rattle.group.specs.declared.Pair.{Pair}
@@ -50,11 +48,11 @@ step_areas t i v area other m e = rw (sym e) (by (admission t m (leb area_size (
     by : (a : Admission)
         → ((if_admitted a m area ((describe (send i v area)).does t)).answer ≡ (if_admitted a m other ((describe (send i v other)).does t)).answer)
         × ((if_admitted a m area ((describe (send i v area)).does t)).memory ≡ (if_admitted a m other ((describe (send i v other)).does t)).memory)
-    by (Admitted c) =
+    by (Ok c) =
         let x = send_area t c i v area other (working_memory m) in (x.0, ap (λ (n : List ℕ). n ++ drop memory_size m) x.1)
-    by (Refused a) = (refl, refl)
+    by (Err a) = (refl, refl)
 
-module _ (t : List ℕ) (c : Counts) (accepted : check t ≡ Accepted c) (bt : Bytes t) where
+module _ (t : List ℕ) (c : Counts) (accepted : check t ≡ Ok c) (bt : Bytes t) where
   -- ---- a send leaves the length of its area, and the slots that it does not ask for
 
   module _ (b : Book) (m : List ℕ) (f : Follows t c b m) (i v : ℕ) (small : v < 2 ^ 32) (area : List ℕ) (fits : area_size ≤ length area) where
@@ -65,7 +63,7 @@ module _ (t : List ℕ) (c : Counts) (accepted : check t ≡ Accepted c) (bt : B
         by : Admits (describe (send i v area)) c b
             → length (if_admitted (admission_by (describe (send i v area)) c b) m area ((describe (send i v area)).does t)).area ≡ length area
         by (goes a l on) = rw a (send_area_length t c i v small area fits (working_memory m) f.agrees.ready)
-        by (stays z a done six word off) = rw a
+        by (stays z a done six off) = rw a
 
     step_area_slot : (k n : ℕ) → n ≤ 8 → (Names (value_of (step t (send i v area) m).answer) k → ⊥)
         → part (8 * k) n (step t (send i v area) m).area ≡ part (8 * k) n area
@@ -76,7 +74,7 @@ module _ (t : List ℕ) (c : Counts) (accepted : check t ≡ Accepted c) (bt : B
             → (Names (value_of (if_admitted (admission_by (describe (send i v area)) c b) m area ((describe (send i v area)).does t)).answer) k → ⊥)
             → part (8 * k) n (if_admitted (admission_by (describe (send i v area)) c b) m area ((describe (send i v area)).does t)).area ≡ part (8 * k) n area
         by (goes a l on) = rw a (send_area_slot t c i v small area fits (working_memory m) f.agrees.ready k n most)
-        by (stays z a done six word off) = rw a (λ no. refl)
+        by (stays z a done six off) = rw a (λ no. refl)
 
   -- ---- the sends of a group, one after the other
 
@@ -186,7 +184,7 @@ module _ (t : List ℕ) (c : Counts) (accepted : check t ≡ Accepted c) (bt : B
 
   -- the answer of a refusal, by the length of the area and whether the layer is stopped
   abbrev pub refusal_by : Book → ℕ → Answer
-  refusal_by b n = pick (leb area_size n) (pick b.stopped Stopped WrongLength) WrongMemory
+  refusal_by b n = pick (leb area_size n) (pick b.stopped (Err Stopped) (Err WrongLength)) (Err WrongMemory)
 
   pub data GroupDoes (b : Book) (g : Group) (m : List ℕ) : Type 0 where
     sends : accepts_group b g ≡ true → area_size ≤ length g.area
@@ -203,11 +201,11 @@ module _ (t : List ℕ) (c : Counts) (accepted : check t ≡ Accepted c) (bt : B
 
       cases : (l s w : Bool) → leb area_size (length g.area) ≡ l → b.stopped ≡ s → well_formed g ≡ w → GroupDoes b g m
       cases false s w el es ew =
-          refuses WrongMemory (rw el) (rw el) (rw (admitted, el)) (λ e. omega (arith, e)) (λ e. absurd (true_not_false e el)) refl
+          refuses (Err WrongMemory) (rw el) (rw el) (rw (admitted, el)) (λ e. omega (arith, e)) (λ e. absurd (true_not_false e el)) refl
       cases true true w el es ew =
-          refuses Stopped (rw (el, es)) (rw (el, es)) (rw (admitted, el, es)) (λ e. omega (arith, e)) (λ e six. omega (arith, six)) refl
+          refuses (Err Stopped) (rw (el, es)) (rw (el, es)) (rw (admitted, el, es)) (λ e. omega (arith, e)) (λ e six. omega (arith, six)) refl
       cases true false false el es ew =
-          refuses WrongLength (rw (el, es)) (rw (el, es, ew)) (rw (admitted, el, es, ew)) (λ e. omega (arith, e)) (λ e six. omega (arith, six)) refl
+          refuses (Err WrongLength) (rw (el, es)) (rw (el, es, ew)) (rw (admitted, el, es, ew)) (λ e. omega (arith, e)) (λ e six. omega (arith, six)) refl
       cases true false true el es ew = sends (rw (el, es, ew)) (leb-true area_size (length g.area) el) (rw (admitted, el, es, ew))
 
   -- with a long enough area it answers no 6

@@ -1,13 +1,12 @@
 -- Demand 3 (a): whether a call is refused follows from the book, and each bit of each frame, and of each send I-PDU in working memory, is
 -- the book's; over every list.
 -- Assumes: the table holds bytes, and arguments are of the types that the calls take (`Typed`).
-use Rattle.std.proofs.Common.{List, [], ◌∷◌, ◌≡◌, sym, ap, ◌∙◌, ℕ, ◌+◌, ◌*◌, ◌≤◌, ◌<◌, arith, length, take, drop, take-append-drop, length-take-le}
+use Rattle.std.proofs.Common.{List, [], ◌∷◌, ◌≡◌, sym, ap, ◌∙◌, ℕ, ◌+◌, ◌*◌, ◌≤◌, ◌<◌, arith, length, take, drop, take-append-drop, length-take-le, Ok}
 use Rattle.memory.specs.Bytes.{Bytes, part}
 use Rattle.memory.proofs.Parts.{part_length, part_front}
 use Rattle.bits.specs.Bits.{frame_bit}
 use Rattle.bits.proofs.RoundTrip.{front_bit}
 use Rattle.table.specs.declared.Counts.{Counts}
-use Rattle.table.specs.declared.Verdict.TheVariants.{Accepted}
 use Rattle.table.specs.Records.{sending, ipdu_record}
 use Rattle.table.specs.Check.{check}
 use Rattle.state.specs.Layout.{slot_at}
@@ -37,7 +36,7 @@ stored_bits t c b m f k in_table sent p low =
     short_bit (slot_at k) (ipdu_record t k).length (working_memory m) p few (omega (arith, in_table, ready.right.shape.ipdus, ready.long)) low
     ∙ f.agrees.bits k in_table sent p (omega (arith, low, few))
 
-module _ (t : List ℕ) (c : Counts) (accepted : check t ≡ Accepted c) (bt : Bytes t) where
+module _ (t : List ℕ) (c : Counts) (accepted : check t ≡ Ok c) (bt : Bytes t) where
   pub call_kept : (b : Book) (m : List ℕ) (f : Follows t c b m) (call : Call) → Typed call → CallKept t c b call (step t call m)
   call_kept b m f call y =
       let x = step_frames t c accepted bt b m f call y in

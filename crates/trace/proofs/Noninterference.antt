@@ -1,11 +1,10 @@
 -- Demand 3, two lists: calls alike but for dropped values give the same answers and frames, over memories that are alike in the
 -- first 8,192 bytes, and leave such memories.
 -- Assumes: the table holds bytes, and arguments are of the types that the calls take (`Typed`).
-use Rattle.std.proofs.Common.{true, false, List, [], ◌∷◌, ⊎_elim, ◌≡◌, refl, sym, ap, subst, ◌∙◌, ℕ, ◌^◌, ◌≤◌, ◌<◌, arith, le-leb, length}
+use Rattle.std.proofs.Common.{true, false, List, [], ◌∷◌, ⊎_elim, ◌≡◌, refl, sym, ap, subst, ◌∙◌, ℕ, ◌^◌, ◌≤◌, ◌<◌, arith, le-leb, length, Ok}
 use Rattle.memory.specs.Bytes.{Bytes, part}
 use Rattle.memory.proofs.Tests.{true_or_false}
 use Rattle.table.specs.declared.Counts.{Counts}
-use Rattle.table.specs.declared.Verdict.TheVariants.{Accepted}
 use Rattle.table.specs.Records.{sending, ipdu_record}
 use Rattle.table.specs.Check.{check}
 use Rattle.table.proofs.Accepted.{accepted_right}
@@ -35,7 +34,7 @@ pub record SameOutcome (o p : Outcome) : Type 0 where
 no_bytes : Bytes []
 no_bytes i = omega arith
 
-module _ (t : List ℕ) (c : Counts) (accepted : check t ≡ Accepted c) (bt : Bytes t) where
+module _ (t : List ℕ) (c : Counts) (accepted : check t ≡ Ok c) (bt : Bytes t) where
   -- a start leaves the same, whatever lay in memory before
   pub start_same : (m n : List ℕ) → memory_size ≤ length m → memory_size ≤ length n → SameOutcome (step t start m) (step t start n)
   unfolding step start_admission
@@ -71,7 +70,7 @@ module _ (t : List ℕ) (c : Counts) (accepted : check t ≡ Accepted c) (bt : B
                   ∙ k.memory
                   ∙ sym (front_of ((describe y).does t c (working_memory n)).memory n (ap length (sym k.memory) ∙ k.size));
             })
-        by (stays z a done six word off) = rw a (record { answer = refl; memory = alike })
+        by (stays z a done six off) = rw a (record { answer = refl; memory = alike })
 
     -- the same call
     equal_same : (call : Call) → Typed call → SameOutcome (step t call m) (step t call n)

@@ -1,11 +1,10 @@
 -- W-203 over lists of calls and groups: the filterings of an object with filter 14 pass in turn, so that of any N in a row, N the period,
 -- exactly one passes.
 -- Assumes: the table holds bytes, and arguments are of the types that the calls take (`TypedAction`).
-use Rattle.std.proofs.Common.{Bool, true, false, List, [], ◌∷◌, ◌++◌, ◌≡◌, refl, sym, ap, ◌∙◌, ℕ, ◌+◌, ◌%◌, mod-eq_of_lt, length}
+use Rattle.std.proofs.Common.{Bool, true, false, List, [], ◌∷◌, ◌++◌, ◌≡◌, refl, sym, ap, ◌∙◌, ℕ, ◌+◌, ◌%◌, mod-eq_of_lt, length, Ok}
 use Rattle.memory.specs.Bytes.{Bytes}
 use Rattle.memory.specs.Search.{pick}
 use Rattle.memory.proofs.Tests.{true_not_false}
-use Rattle.table.specs.declared.Verdict.TheVariants.{Accepted}
 use Rattle.table.specs.Records.{counts}
 use Rattle.table.specs.Check.{Right, check}
 use Rattle.table.proofs.Accepted.{accepted_right}
@@ -25,7 +24,7 @@ use Rattle.trace.proofs.TurnLaws.{turns_part, one_turn}
 use Rattle.trace.proofs.Filtered.{in_period, count_remainder, InTurnFrom, in_turn_then, none_filtered, call_in_turn}
 use Rattle.trace.proofs.StepFilters.{step_filters}
 
-module _ (t : List ℕ) (accepted : check t ≡ Accepted (counts t)) (bt : Bytes t) (i : ℕ) (x : Fourteen t i) where
+module _ (t : List ℕ) (accepted : check t ≡ Ok (counts t)) (bt : Bytes t) (i : ℕ) (x : Fourteen t i) where
   right : Right t (counts t)
   right = accepted_right t (counts t) accepted
 

@@ -10,7 +10,7 @@ use Rattle.filter.specs.Filters.{passes, filter_of}
 use Rattle.table.specs.Records.{sending, counts, ipdu_record, object_record}
 use Rattle.config.specs.Decode.{object_of}
 use Rattle.state.specs.Layout.{memory_size, area_size}
-use Rattle.calls.specs.declared.Answer.TheVariants.{Done}
+use Rattle.calls.specs.Answers.{done_with}
 use Rattle.calls.specs.Answers.{number_of, value_of}
 use Rattle.layer.specs.Step.{Call, start, stop, send, initialise, receive, status, marks, clear_marks, start_periodic, stop_periodic, indication, confirm, tick, told_send}
 use Rattle.layer.specs.Step.{told_nothing, Told, told_start, told_stop, told_initialise, lent_bytes, describe, step}
@@ -274,7 +274,7 @@ takes = record { low = omega arith; kind = refl; passes = refl }
 -- receives there what was sent here
 pub received : (step other (receive 0)
     (step other (indication 0 true (claim.frame table 0 (step table (send 0 2748 here) (after (start ∷ []) m)).area)) (memory_of other [] n)).memory).answer
-    ≡ Done 2748
+    ≡ done_with 2748
 unfolding extended read_back value bytes_of part number_at integer less_than passes filter_of counts ipdu_record object_record advance
 received =
     (reading_round_trip table bytes [] m sender (send 0 2748 here) (omega arith, none) 0 0 requested refl refl (λ n low. refl) other other_bytes [] n receiver 0

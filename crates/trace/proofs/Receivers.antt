@@ -1,9 +1,8 @@
 -- A layer that runs: what a receive of it gives, and when a value that a call brought to a receive object has arrived there.
 -- Assumes: the table holds bytes, and arguments are of the types that the calls take (`Typed`).
-use Rattle.std.proofs.Common.{true, false, List, [], ◌∷◌, ◌++◌, ◌⊎◌, inr, ◌≡◌, refl, sym, ap, ◌∙◌, ℕ, suc, ◌+◌, ◌^◌, ◌≤◌, ◌<◌, arith, lt-ltb, length}
+use Rattle.std.proofs.Common.{true, false, List, [], ◌∷◌, ◌++◌, ◌⊎◌, inr, ◌≡◌, refl, sym, ap, ◌∙◌, ℕ, suc, ◌+◌, ◌^◌, ◌≤◌, ◌<◌, arith, lt-ltb, length, Ok}
 use Rattle.memory.specs.Bytes.{Bytes, part}
 use Rattle.table.specs.declared.Counts.{Counts}
-use Rattle.table.specs.declared.Verdict.TheVariants.{Accepted}
 use Rattle.table.specs.Records.{receiving, counts, object_record}
 use Rattle.table.specs.Check.{check}
 use Rattle.config.specs.Decode.{object_of}
@@ -16,7 +15,7 @@ use Rattle.message.specs.Objects.{object, passes_filter, after_filter, marked, d
 use Rattle.queue.specs.Queues.{oldest, waiting}
 use Rattle.message.proofs.ObjectsInRange.{ready_held}
 use Rattle.message.proofs.Queues.{waiting_length, waiting_oldest, waiting_arrived, waiting_same}
-use Rattle.calls.specs.declared.Answer.TheVariants.{Done}
+use Rattle.calls.specs.Answers.{done_with}
 use Rattle.calls.specs.Answers.{Outcome, number_of, value_of}
 use Rattle.calls.specs.Calls.{is_object, receive_in}
 use Rattle.calls.proofs.Received.{taken, limited_gives}
@@ -32,7 +31,7 @@ use Rattle.trace.proofs.Steps.{Follows, start_accepted, start_follows, admission
 
 -- working memory over an accepted table that follows a book that is not stopped
 pub record Live (t m : List ℕ) : Type 0 where
-  pub table : check t ≡ Accepted (counts t)
+  pub table : check t ≡ Ok (counts t)
   pub bytes : Bytes t
   pub book : Book
   pub follows : Follows t (counts t) book m
@@ -87,7 +86,7 @@ module _ (t m : List ℕ) (l : Live t m) where
 
 -- of an unqueued object
 received : (t : List ℕ) (c : Counts) (m : List ℕ) (j : ℕ) → is_object t c receiving j ≡ true → (object_record t c.ipdus j).depth ≡ 0
-    → (receive_in t c j m).answer ≡ Done (object_state m j).value
+    → (receive_in t c j m).answer ≡ done_with (object_state m j).value
 unfolding receive_in
 received t c m j is flat = rw (is, flat)
 
@@ -190,7 +189,7 @@ arrives t m l call y runs long on j v x r =
       unqueued = λ flat.
           ap (λ (o : Outcome). o.answer) (own_part t (step t call m).memory (live_after t m l call y on) (receive j) refl refl)
           ∙ received t c (working_memory (step t call m).memory) j (receives t c j x.low x.kind) flat
-          ∙ ap (λ (n : List ℕ). Done (object_state n j).value) after
-          ∙ ap Done (r.value flat);
+          ∙ ap (λ (n : List ℕ). done_with (object_state n j).value) after
+          ∙ ap done_with (r.value flat);
       queued = λ room. ap (waiting (object_record t c.ipdus j).depth j) after ∙ r.queue room;
     }

@@ -1,21 +1,20 @@
 -- Demand 1 over calls, groups and lists of them: a refused one leaves all lent bytes; after an accepted start none meets a number out of
 -- its range; memory that was never started does not run.
 -- Assumes nothing; `never_6` that the table holds bytes and that arguments are of the types that the calls take (`TypedAction`).
-use Rattle.std.proofs.Common.{Bool, true, false, ◌&&◌, List, [], ◌∷◌, ◌++◌, inl, inr, ⊎_elim, ◌≡◌, refl, ap, ◌∙◌, ℕ, zero, suc, leb, length, drop, replicate, take-append-drop}
+use Rattle.std.proofs.Common.{Bool, true, false, ◌&&◌, List, [], ◌∷◌, ◌++◌, inl, inr, ⊎_elim, ◌≡◌, refl, ap, ◌∙◌, ℕ, zero, suc, leb, length, drop, replicate, take-append-drop, Ok, Err, Result}
 use Rattle.memory.specs.Bytes.{Bytes, value, part, number_at}
 use Rattle.memory.proofs.Search.{picked}
 use Rattle.memory.proofs.Tests.{true_or_false}
-use Rattle.table.specs.declared.Verdict.{Verdict}
-use Rattle.table.specs.declared.Verdict.TheVariants.{Accepted, WrongHeader, WrongIpdu, WrongObject}
+use Rattle.table.specs.declared.Counts.{Counts}
+use Rattle.table.specs.declared.WrongRecord.{WrongRecord}
 use Rattle.table.specs.Check.{check}
 use Rattle.table.specs.Records.{counts}
 use Rattle.state.specs.Layout.{memory_size, area_size, running_at}
 use Rattle.state.specs.Ranges.{in_range}
-use Rattle.calls.specs.declared.Answer.{Answer}
-use Rattle.calls.specs.declared.Answer.TheVariants.{WrongTable, WrongMemory, Stopped}
+use Rattle.calls.specs.declared.Refusal.{Refusal}
+use Rattle.calls.specs.declared.Refusal.TheVariants.{WrongTable, WrongMemory, Stopped}
 use Rattle.calls.specs.Answers.{number_of}
-use Rattle.layer.specs.declared.Admission.{Admission}
-use Rattle.layer.specs.declared.Admission.TheVariants.{Admitted, Refused}
+use Rattle.layer.specs.Admission.{Admission}
 use Rattle.layer.specs.Admission.{working_memory, admission_of, admission, if_admitted}
 use Rattle.layer.specs.Step.{Call, start, lent_bytes, long_enough, describe, admission_for, step}
 use Rattle.group.specs.Groups.{Group, GroupOutcome, well_formed, if_group_admitted, group_step}
@@ -36,10 +35,10 @@ refused_leaves t call m r = by (admission_for (describe call) t m) r
   where
     by : (a : Admission) → IsRefused call (if_admitted a m (lent_bytes (describe call).lent) ((describe call).does t))
         → Unchanged m (lent_bytes (describe call).lent) (if_admitted a m (lent_bytes (describe call).lent) ((describe call).does t))
-    by (Admitted c) r =
+    by (Ok c) r =
         let u = ((shows t c call).answered (working_memory m)).leaves r in
         record { memory = ap (λ (n : List ℕ). n ++ drop memory_size m) u.memory ∙ take-append-drop memory_size m; area = u.area }
-    by (Refused a) r = record { memory = refl; area = refl }
+    by (Err a) r = record { memory = refl; area = refl }
 
 -- a refused group: no number but 0 leaves anything changed
 pub refused_group_leaves : (t : List ℕ) (g : Group) (m : List ℕ) → (number_of (group_step t g m).answer ≡ 0 → ⊥) → GroupUnchanged m g (group_step t g m)
@@ -47,10 +46,10 @@ unfolding group_step
 refused_group_leaves t g m = by (admission t m (leb area_size (length g.area)))
   where
     by : (a : Admission) → (number_of (if_group_admitted a t g m).answer ≡ 0 → ⊥) → GroupUnchanged m g (if_group_admitted a t g m)
-    by (Admitted c) =
+    by (Ok c) =
         picked (λ (o : GroupOutcome). (number_of o.answer ≡ 0 → ⊥) → GroupUnchanged m g o) (well_formed g) _ _
         (λ e some. absurd (some refl)) (λ e some. record { memory = refl; area = refl; statuses = refl })
-    by (Refused a) = λ some. record { memory = refl; area = refl; statuses = refl }
+    by (Err a) = λ some. record { memory = refl; area = refl; statuses = refl }
 
 -- ---- after a start
 
@@ -61,12 +60,12 @@ never_6 t bt xs y m e =
     let a = start_accepted t m e in
     after xs y a.table (opened t (counts t)) (step t start m).memory (start_follows t (counts t) a.table bt m a.long)
   where
-    not_6 : check t ≡ Accepted (counts t) → (b : Book) (m : List ℕ) → Follows t (counts t) b m → (x : Action)
+    not_6 : check t ≡ Ok (counts t) → (b : Book) (m : List ℕ) → Follows t (counts t) b m → (x : Action)
         → area_fits x ≡ true → number_of (answer_of t x m) ≡ 6 → ⊥
     not_6 right b m f (single call) = step_not_6 t (counts t) right bt b m f call
     not_6 right b m f (group g) = group_not_6 t (counts t) right bt b g m f
 
-    after : (xs : List Action) → ActionsTyped xs → check t ≡ Accepted (counts t) → (b : Book) (m : List ℕ) → Follows t (counts t) b m → Never6 t xs m
+    after : (xs : List Action) → ActionsTyped xs → check t ≡ Ok (counts t) → (b : Book) (m : List ℕ) → Follows t (counts t) b m → Never6 t xs m
     after [] y right b m f = tt
     after (x ∷ xs) y right b m f = (
       not_6 right b m f x,
@@ -77,14 +76,14 @@ never_6 t bt xs y m e =
 
 -- a refusal with 5, 6 or 7
 data Refuses (a : Admission) : Type 0 where
-  refuses : (r : Answer) → a ≡ Refused r → NotAdmitted r → Refuses a
+  refuses : (r : Refusal) → a ≡ Err r → NotAdmitted (Err r) → Refuses a
 
 stopped_admission : (t m : List ℕ) (fits : Bool) → running_at (working_memory m) ≡ 0 → Refuses (admission t m fits)
 unfolding admission
 stopped_admission t m fits off = by (check t)
   where
-    by : (v : Verdict) → Refuses (admission_of v t m fits)
-    by (Accepted c) =
+    by : (v : Result Counts WrongRecord) → Refuses (admission_of v t m fits)
+    by (Ok c) =
         ⊎_elim
         (λ (l : (leb memory_size (length m) && fits) ≡ true).
         ⊎_elim
@@ -93,9 +92,7 @@ stopped_admission t m fits off = by (check t)
         (true_or_false (in_range t c (working_memory m))))
         (λ (l : (leb memory_size (length m) && fits) ≡ false). refuses WrongMemory (rw l) (inr (inl refl)))
         (true_or_false (leb memory_size (length m) && fits))
-    by WrongHeader = refuses WrongTable refl (inl refl)
-    by (WrongIpdu k) = refuses WrongTable refl (inl refl)
-    by (WrongObject i) = refuses WrongTable refl (inl refl)
+    by (Err wrong) = refuses WrongTable refl (inl refl)
 
 call_refused : (t : List ℕ) (call : Call) (m : List ℕ) → (describe call).running ≡ true → running_at (working_memory m) ≡ 0 → NotAdmitted (step t call m).answer
 unfolding step

@@ -18,7 +18,7 @@ use Rattle.state.specs.Ranges.{Ready}
 use Rattle.message.specs.Objects.{object, passes_filter, deliver, pack}
 use Rattle.delivery.specs.Delivery.{inside_turn, deliver_inside}
 use Rattle.message.proofs.ObjectsInRange.{ready_pack}
-use Rattle.calls.specs.declared.Answer.TheVariants.{Done}
+use Rattle.calls.specs.Answers.{done_with}
 use Rattle.calls.specs.Answers.{Outcome, outcome, value_of}
 use Rattle.calls.specs.Calls.{is_object, wants, request, send_of, send_in}
 use Rattle.calls.proofs.Records.{object_there, wants_some}
@@ -117,11 +117,11 @@ module _ (t : List ℕ) (c : Counts) where
           (deliver (object t c j) j v (fold j (inside_turn t c i v) m)) (fold j (inside_turn t c i v) m) (λ e. absurd (not_inside j b e)) (λ e. refl)
 
   pub send_dropped : (b : Book) (m : List ℕ) → Refines t c b m → (i v : ℕ) → v < 2 ^ 32 → (area : List ℕ) → is_object t c sending i ≡ true
-      → keeps t c b i v ≡ false → inside t c i ≡ false → send_in t c i v area m ≡ outcome (Done 0) (with_object_state m i (counted (object t c i).filter (object_state m i))) area
+      → keeps t c b i v ≡ false → inside t c i ≡ false → send_in t c i v area m ≡ outcome (done_with 0) (with_object_state m i (counted (object t c i).filter (object_state m i))) area
   send_dropped b m a i v small area is drop none =
       let p : judge t c m a.ready i is v small area ≡ false = judge_is t c b m a i is v small area ∙ drop in
       let same = none_inside i v (object_there t c sending i is) none m a.ready.right in
       sent_as t c m a.ready i is v small area false p
-      ∙ ap (λ (s : ObjectState). outcome (Done 0) (with_object_state (deliver_inside t c i v m) i s) area)
+      ∙ ap (λ (s : ObjectState). outcome (done_with 0) (with_object_state (deliver_inside t c i v m) i s) area)
       (filtered_out (judge t c m a.ready i is v small area) (object t c i) v (object_state (deliver_inside t c i v m) i) p)
-      ∙ ap (λ (l : List ℕ). outcome (Done 0) (with_object_state l i (counted (object t c i).filter (object_state l i))) area) same
+      ∙ ap (λ (l : List ℕ). outcome (done_with 0) (with_object_state l i (counted (object t c i).filter (object_state l i))) area) same

@@ -1,14 +1,12 @@
 -- The number that a begin or a drain answers: the layer's own, which is as the book has it, or else the objects'. It is no 6 where what it is
 -- lent fits. Assumes nothing.
-use Rattle.std.proofs.Common.{Bool, true, false, ◌&&◌, ◌||◌, List, [], ⊎_elim, ◌≡◌, refl, ℕ, arith, eqb-true, leb, ltb, eqb, length}
+use Rattle.std.proofs.Common.{Bool, true, false, ◌&&◌, ◌||◌, List, [], ⊎_elim, ◌≡◌, refl, ℕ, arith, eqb-true, leb, ltb, eqb, length, Ok, Err}
 use Rattle.memory.specs.Bytes.{Bytes}
 use Rattle.memory.specs.Search.{pick, any_below}
 use Rattle.memory.proofs.Tests.{true_or_false}
 use Rattle.table.specs.declared.Counts.{Counts}
-use Rattle.table.specs.declared.Verdict.TheVariants.{Accepted}
 use Rattle.table.specs.Check.{check}
-use Rattle.calls.specs.declared.Answer.TheVariants.{Stopped}
-use Rattle.layer.specs.declared.Admission.TheVariants.{Admitted, Refused}
+use Rattle.calls.specs.declared.Refusal.TheVariants.{Stopped}
 use Rattle.layer.specs.Promises.{refusal_of, refusal}
 use Rattle.layer.specs.Step.{send, receive, describe}
 use Rattle.sheet.specs.Layout.{most_followed, sheet_size, followed_at, objects_in, sheet_in_range}
@@ -59,13 +57,13 @@ first_not_6 r k p q = by (eqb r 0)
     by true = q
     by false = p
 
-module _ (t : List ℕ) (c : Counts) (accepted : check t ≡ Accepted c) (bt : Bytes t) (b : Book) (m : List ℕ) (f : Follows t c b m) where
+module _ (t : List ℕ) (c : Counts) (accepted : check t ≡ Ok c) (bt : Bytes t) (b : Book) (m : List ℕ) (f : Follows t c b m) where
   -- the layer's own number, from the book alone
   pub refusal_is : (fits : Bool) → refusal t m fits ≡ pick fits (pick b.stopped 7 0) 6
   unfolding refusal
   refusal_is true = rw (admission_is t c accepted bt b m f (describe (receive 0))) (by b.stopped)
     where
-      by : (stopped : Bool) → refusal_of (pick stopped (Refused Stopped) (Admitted c)) ≡ pick stopped 7 0
+      by : (stopped : Bool) → refusal_of (pick stopped (Err Stopped) (Ok c)) ≡ pick stopped 7 0
       by true = refl
       by false = refl
   refusal_is false = rw (admission_is t c accepted bt b m f (describe (send 0 0 [])))

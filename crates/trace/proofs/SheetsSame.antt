@@ -1,6 +1,6 @@
 -- Demand 3 (b) of begins and drains: over memories that are alike in the first 8,192 bytes they give the same, and a drain leaves such memories.
 -- Assumes: the table holds bytes.
-use Rattle.std.proofs.Common.{Bool, true, false, ◌&&◌, ◌||◌, List, [], ◌∷◌, ◌++◌, ⊎_elim, ◌≡◌, refl, sym, ap, ap₂, ◌∙◌, ℕ, zero, suc, ◌+◌, ◌≤◌, ◌<◌, zero-add, add-zero, add-suc}
+use Rattle.std.proofs.Common.{Bool, true, false, ◌&&◌, ◌||◌, List, [], ◌∷◌, ◌++◌, ⊎_elim, ◌≡◌, refl, sym, ap, ap₂, ◌∙◌, ℕ, zero, suc, ◌+◌, ◌≤◌, ◌<◌, zero-add, add-zero, add-suc, Ok}
 use Rattle.std.proofs.Common.{suc-add, arith, eqb-true, leb, ltb, eqb, length, get_or, set, take, drop, length-set, take_all as take_whole, take-suc-set}
 use mathlib.Core.Path.{fun_ext}
 use borrow.Author.Tests.{eqb-false}
@@ -9,11 +9,10 @@ use Rattle.memory.specs.Bytes.{Bytes}
 use Rattle.memory.specs.Search.{pick, any_below, fold}
 use Rattle.memory.proofs.Tests.{lt_or_le, true_or_false}
 use Rattle.table.specs.declared.Counts.{Counts}
-use Rattle.table.specs.declared.Verdict.TheVariants.{Accepted}
 use Rattle.table.specs.Records.{counts, object_record}
 use Rattle.table.specs.Check.{check}
 use Rattle.queue.specs.Queues.{waiting}
-use Rattle.calls.specs.declared.Answer.{Answer}
+use Rattle.calls.specs.Answers.{Answer}
 use Rattle.calls.specs.Answers.{number_of, value_of}
 use Rattle.layer.specs.declared.Reply.{Reply}
 use Rattle.layer.specs.Admission.{working_memory}
@@ -66,7 +65,7 @@ new_length is few = turns (length is) (omega arith)
         let before = turns k (omega (arith, most)) in
         row_length s k (new_row (get_or is k 0)) (omega (arith, before, most, few)) ∙ before
 
-module _ (t : List ℕ) (c : Counts) (accepted : check t ≡ Accepted c) (bt : Bytes t) (b : Book) where
+module _ (t : List ℕ) (c : Counts) (accepted : check t ≡ Ok c) (bt : Bytes t) (b : Book) where
   -- two memories that follow one book, alike in the first 8,192 bytes
   pub record Paired (m n : List ℕ) : Type 0 where
     pub first : Follows t c b m

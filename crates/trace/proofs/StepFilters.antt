@@ -1,11 +1,10 @@
 -- W-203: what `Filterings` reads off a call is what the layer does, of every object and filter: a value that is filtered leaves the row that
 -- the definition says, a call that filters none leaves the count, and of a send object the book judges alike.
 -- Assumes: the table holds bytes, and arguments are of the types that the calls take (`Typed`).
-use Rattle.std.proofs.Common.{Bool, true, false, List, [], ◌≡◌, refl, ap, ap₂, ℕ, ◌<◌, arith, ne_eqb, length}
+use Rattle.std.proofs.Common.{Bool, true, false, List, [], ◌≡◌, refl, ap, ap₂, ℕ, ◌<◌, arith, ne_eqb, length, Ok, Err}
 use Rattle.memory.specs.Bytes.{Bytes}
 use Rattle.memory.specs.Search.{pick}
 use Rattle.memory.proofs.Tests.{true_not_false}
-use Rattle.table.specs.declared.Verdict.TheVariants.{Accepted}
 use Rattle.filter.specs.Filters.{passes}
 use Rattle.table.specs.Records.{sending, counts}
 use Rattle.table.specs.Check.{check}
@@ -25,7 +24,7 @@ use Rattle.trace.proofs.Steps.{Follows, start_accepted, start_follows, admission
 use Rattle.trace.proofs.ActionsKept.{actions_follow}
 use Rattle.trace.proofs.FilteringCalls.{own_none, own_one, own_refused}
 
-module _ (t : List ℕ) (accepted : check t ≡ Accepted (counts t)) (bt : Bytes t) (b : Book) (m : List ℕ) (f : Follows t (counts t) b m) (call : Call)
+module _ (t : List ℕ) (accepted : check t ≡ Ok (counts t)) (bt : Bytes t) (b : Book) (m : List ℕ) (f : Follows t (counts t) b m) (call : Call)
     (y : Typed call) (i : ℕ) (low : i < (counts t).objects) where
   -- admitted or refused
   abbrev did : Outcome
@@ -39,7 +38,7 @@ module _ (t : List ℕ) (accepted : check t ≡ Accepted (counts t)) (bt : Bytes
   one v e (goes g l on) =
       rw (g, front_of own.memory m (own_long t (counts t) accepted bt b m f call y l))
       (λ went. own_one t (counts t) i low (working_memory m) f.agrees.ready call y v e went)
-  one v e (stays a g refused six word off) = rw g (λ went. absurd (true_not_false went (ne_eqb (number_of a) 0 refused)))
+  one v e (stays a g refused six off) = rw g (λ went. absurd (true_not_false went (ne_eqb (number_of (Err a)) 0 refused)))
 
   none : (call ≡ start → ⊥) → Admits (describe call) (counts t) b
       → pick (done did) (filter_result t (counts t) i (working_memory m) (filtered_value t (counts t) i call)) [] ≡ []
@@ -54,7 +53,7 @@ module _ (t : List ℕ) (accepted : check t ≡ Accepted (counts t)) (bt : Bytes
       by (a_value v) e true d z = let n : ◌≡◌ {A = ℕ} 1 0 = ap length z in absurd (omega (arith, n))
       by (a_value v) e false d z =
           ap (λ (w : List ℕ). (object_state w i).occurrence) (own_refused t (counts t) i low (working_memory m) f.agrees.ready call v e d)
-  none other (stays a g refused six word off) = rw g (λ z. refl)
+  none other (stays a g refused six off) = rw g (λ z. refl)
 
   step_is : step t call m ≡ did
   unfolding step

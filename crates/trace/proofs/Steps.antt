@@ -1,23 +1,22 @@
 -- Any call, admitted or refused, from what its row shows: working memory follows the book, the slots that its word names hold the
 -- I-PDUs, and whether it is done follows from the book.
 -- Assumes: the table holds bytes, and arguments are of the types that the calls take (`Typed`).
-use Rattle.std.proofs.Common.{Bool, true, false, ◌&&◌, List, [], ◌∷◌, ◌++◌, ⊎_elim, ◌≡◌, refl, sym, ap, subst, ◌∙◌, ℕ, ◌≤◌, arith, le-leb, leb-true, ne_eqb, leb, eqb, length, drop}
+use Rattle.std.proofs.Common.{Bool, true, false, ◌&&◌, List, [], ◌∷◌, ◌++◌, ⊎_elim, ◌≡◌, refl, sym, ap, subst, ◌∙◌, ℕ, ◌≤◌, arith, le-leb, leb-true, ne_eqb, leb, eqb, length, drop, Ok, Result, Err}
 use Rattle.memory.specs.Bytes.{Bytes}
 use Rattle.memory.specs.Search.{pick}
 use Rattle.memory.proofs.Tests.{true_or_false, true_not_false}
 use Rattle.table.specs.declared.Counts.{Counts}
-use Rattle.table.specs.declared.Verdict.{Verdict}
-use Rattle.table.specs.declared.Verdict.TheVariants.{Accepted, WrongHeader, WrongIpdu, WrongObject}
+use Rattle.table.specs.declared.WrongRecord.{WrongRecord}
 use Rattle.table.specs.Records.{counts}
 use Rattle.table.specs.Check.{check}
 use Rattle.table.proofs.Accepted.{accepted_right}
 use Rattle.state.specs.Layout.{memory_size, running_at}
 use Rattle.state.proofs.Ready.{ready_in_range}
-use Rattle.calls.specs.declared.Answer.{Answer}
-use Rattle.calls.specs.declared.Answer.TheVariants.{WrongMemory, Stopped}
+use Rattle.calls.specs.Answers.{Answer}
+use Rattle.calls.specs.declared.Refusal.{Refusal}
+use Rattle.calls.specs.declared.Refusal.TheVariants.{WrongMemory, Stopped}
 use Rattle.calls.specs.Answers.{Outcome, number_of, value_of}
-use Rattle.layer.specs.declared.Admission.{Admission}
-use Rattle.layer.specs.declared.Admission.TheVariants.{Admitted, Refused}
+use Rattle.layer.specs.Admission.{Admission}
 use Rattle.layer.specs.Admission.{working_memory, admission, start_admission_of, start_admission, if_admitted}
 use Rattle.startup.specs.Start.{started, start_in}
 use Rattle.layer.specs.Step.{Call, start, Lent, no_area, requests, lent_bytes, long_enough, Told, told_start, told_stop, told_send, told_initialise, told_nothing, Description}
@@ -35,7 +34,7 @@ use Rattle.trace.proofs.Shows.{goes_on, shows}
 -- ---- an accepted start: the table is right, and memory is long enough
 
 pub record Begins (t m : List ℕ) : Type 0 where
-  pub table : check t ≡ Accepted (counts t)
+  pub table : check t ≡ Ok (counts t)
   pub long : memory_size ≤ length m
 
 not_done : false ≡ true → ⊥
@@ -45,16 +44,14 @@ pub start_accepted : (t m : List ℕ) → done (step t start m) ≡ true → Beg
 unfolding step start_admission
 start_accepted t m e = cases (check t) refl e
   where
-    cases : (v : Verdict) → check t ≡ v → done (if_admitted (start_admission_of v m) m [] (start_in t)) ≡ true → Begins t m
-    cases (Accepted c) h e =
+    cases : (v : Result Counts WrongRecord) → check t ≡ v → done (if_admitted (start_admission_of v m) m [] (start_in t)) ≡ true → Begins t m
+    cases (Ok c) h e =
         ⊎_elim
         (λ (l : leb memory_size (length m) ≡ true).
-        record { table = h ∙ ap Accepted (accepted_right t c h).counted; long = leb-true memory_size (length m) l })
+        record { table = h ∙ ap Ok (accepted_right t c h).counted; long = leb-true memory_size (length m) l })
         (λ (l : leb memory_size (length m) ≡ false). absurd (not_done (rw l at e)))
         (true_or_false (leb memory_size (length m)))
-    cases WrongHeader h e = absurd (not_done e)
-    cases (WrongIpdu k) h e = absurd (not_done e)
-    cases (WrongObject i) h e = absurd (not_done e)
+    cases (Err wrong) h e = absurd (not_done e)
 
 -- a memory that is long enough and refines the book
 pub record Follows (t : List ℕ) (c : Counts) (b : Book) (m : List ℕ) : Type 0 where
@@ -75,11 +72,11 @@ stopped_is false n e = rw e
 -- from the book alone
 abbrev pub admission_by : Description → Counts → Book → Admission
 admission_by d c b =
-    pick d.running (pick (long_enough d.lent) (pick b.stopped (Refused Stopped) (Admitted c)) (Refused WrongMemory)) (Admitted c)
+    pick d.running (pick (long_enough d.lent) (pick b.stopped (Err Stopped) (Ok c)) (Err WrongMemory)) (Ok c)
 
 pub data Admits (d : Description) (c : Counts) (b : Book) : Type 0 where
-  goes : admission_by d c b ≡ Admitted c → (d.running ≡ true → long_enough d.lent ≡ true) → goes_on d b ≡ true → Admits d c b
-  stays : (a : Answer) → admission_by d c b ≡ Refused a → (number_of a ≡ 0 → ⊥) → (long_enough d.lent ≡ true → number_of a ≡ 6 → ⊥) → value_of a ≡ 0
+  goes : admission_by d c b ≡ Ok c → (d.running ≡ true → long_enough d.lent ≡ true) → goes_on d b ≡ true → Admits d c b
+  stays : (r : Refusal) → admission_by d c b ≡ Err r → (number_of (Err r) ≡ 0 → ⊥) → (long_enough d.lent ≡ true → number_of (Err r) ≡ 6 → ⊥)
       → goes_on d b ≡ false → Admits d c b
 
 pub admits : (d : Description) (c : Counts) (b : Book) → Admits d c b
@@ -88,8 +85,8 @@ admits d c b = cases d.running (long_enough d.lent) b.stopped refl refl refl
     cases : (r l s : Bool) → d.running ≡ r → long_enough d.lent ≡ l → b.stopped ≡ s → Admits d c b
     cases false l s er el es = goes (rw er) (λ e. absurd (true_not_false e er)) (rw er)
     cases true false s er el es =
-        stays WrongMemory (rw (er, el)) (λ e. omega (arith, e)) (λ e. absurd (true_not_false e el)) refl (rw (er, el))
-    cases true true true er el es = stays Stopped (rw (er, el, es)) (λ e. omega (arith, e)) (λ e six. omega (arith, six)) refl (rw (er, el, es))
+        stays WrongMemory (rw (er, el)) (λ e. omega (arith, e)) (λ e. absurd (true_not_false e el)) (rw (er, el))
+    cases true true true er el es = stays Stopped (rw (er, el, es)) (λ e. omega (arith, e)) (λ e six. omega (arith, six)) (rw (er, el, es))
     cases true true false er el es = goes (rw (er, el, es)) (λ e. el) (rw (er, el, es))
 
 -- an answer that returns nothing names no I-PDU
@@ -97,7 +94,7 @@ no_word : (l : Lent) (a : Answer) → value_of a ≡ 0 → word_in l a ≡ 0
 no_word no_area a e = refl
 no_word (requests area) a e = e
 
-module _ (t : List ℕ) (c : Counts) (accepted : check t ≡ Accepted c) (bt : Bytes t) where
+module _ (t : List ℕ) (c : Counts) (accepted : check t ≡ Ok c) (bt : Bytes t) where
   pub start_follows : (m : List ℕ) → memory_size ≤ length m → Follows t c (opened t c) (step t start m).memory
   unfolding step start_admission
   start_follows m long =
@@ -134,7 +131,7 @@ module _ (t : List ℕ) (c : Counts) (accepted : check t ≡ Accepted c) (bt : B
           by : Admits (describe call) c b
               → number_of (if_admitted (admission_by (describe call) c b) m (lent_bytes (describe call).lent) ((describe call).does t)).answer ≡ 6 → ⊥
           by (goes e l on) = rw e ((shows t c call).answered (working_memory m)).not_six
-          by (stays a e done six word off) = rw e (six long)
+          by (stays a e done six off) = rw e (six long)
 
       -- it is done where it goes on and its own part is done
       step_done : done (step t call m) ≡ (goes_on (describe call) b && done own)
@@ -144,7 +141,7 @@ module _ (t : List ℕ) (c : Counts) (accepted : check t ≡ Accepted c) (bt : B
           by : Admits (describe call) c b
               → done (if_admitted (admission_by (describe call) c b) m (lent_bytes (describe call).lent) ((describe call).does t)) ≡ (goes_on (describe call) b && done own)
           by (goes e l on) = rw (e, on)
-          by (stays a e done six word off) = rw (e, off) (ne_eqb (number_of a) 0 done)
+          by (stays a e done six off) = rw (e, off) (ne_eqb (number_of (Err a)) 0 done)
 
       pub step_judged : Judged t c b (describe call).told (length (lent_bytes (describe call).lent)) (done (step t call m))
       step_judged =
@@ -184,7 +181,7 @@ module _ (t : List ℕ) (c : Counts) (accepted : check t ≡ Accepted c) (bt : B
                 (pick (done (if_admitted (admission_by (describe call) c b) m (lent_bytes (describe call).lent) ((describe call).does t))) (entered t c b (describe call).told) b)
                 (if_admitted (admission_by (describe call) c b) m (lent_bytes (describe call).lent) ((describe call).does t)).memory
             by (goes e l on) = rw e (follows t c _ own.memory m (own_refines l))
-            by (stays a e done six word off) = rw (e, ne_eqb (number_of a) 0 done) f
+            by (stays a e done six off) = rw (e, ne_eqb (number_of (Err a)) 0 done) f
 
         pub step_frames : FramesInArea t c (word_of call (step t call m).answer) (step t call m).area (working_memory (step t call m).memory)
         unfolding step
@@ -196,7 +193,7 @@ module _ (t : List ℕ) (c : Counts) (accepted : check t ≡ Accepted c) (bt : B
                 (if_admitted (admission_by (describe call) c b) m (lent_bytes (describe call).lent) ((describe call).does t)).area
                 (working_memory (if_admitted (admission_by (describe call) c b) m (lent_bytes (describe call).lent) ((describe call).does t)).memory)
             by (goes e l on) = rw (e, front_of own.memory m (own_long l)) ((shows t c call).frames (working_memory m) f.agrees.ready y.0 l)
-            by (stays a e done six word off) = rw (e, no_word (describe call).lent a word) (in_area_zero t c _ _)
+            by (stays a e done six off) = rw (e, no_word (describe call).lent (Err a) refl) (in_area_zero t c _ _)
 
   -- ---- a list of calls
 

@@ -12,7 +12,7 @@ use Rattle.message.specs.Objects.{mark_send_error, mark_receive_error}
 use Rattle.delivery.specs.Delivery.{mark_objects}
 use Rattle.transmission.specs.Requests.{ipdu, after_request}
 use Rattle.timing.specs.Ticks.{tick_delay, deadline_expires, tick_deadline, tick_period, timer_expires, tick_timer}
-use Rattle.calls.specs.declared.Answer.TheVariants.{Done}
+use Rattle.calls.specs.Answers.{done_with}
 use Rattle.calls.specs.Answers.{Outcome, value_of}
 use Rattle.calls.specs.Tick.{TickResult, tick_as, tick_ipdu, tick_turn, ticks, tick_in}
 use Rattle.calls.proofs.Records.{sends_one}
@@ -138,4 +138,4 @@ module _ (t : List ℕ) (c : Counts) where
 
     pub tick_area : ((tick_in t c area m).answer ≡ (tick_in t c other m).answer) × ((tick_in t c area m).memory ≡ (tick_in t c other m).memory)
     unfolding tick_in
-    tick_area = let e = turns_area c.ipdus in (ap Done e.0, e.1)
+    tick_area = let e = turns_area c.ipdus in (ap done_with e.0, e.1)

@@ -4,7 +4,7 @@ use Rattle.std.specs.Prelude.{Bool, true, not, ◌&&◌, List, [], ◌∷◌, �
 use Rattle.memory.specs.Search.{pick}
 use Rattle.table.specs.declared.Counts.{Counts}
 use Rattle.state.specs.Layout.{area_size}
-use Rattle.calls.specs.declared.Answer.{Answer}
+use Rattle.calls.specs.Answers.{Answer}
 use Rattle.layer.specs.Step.{Call, send, long_enough, describe, step}
 use Rattle.group.specs.declared.Pair.{Pair}
 use Rattle.group.specs.Groups.{Group, well_formed, group_step}

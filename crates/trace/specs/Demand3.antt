@@ -8,7 +8,7 @@ use Rattle.memory.specs.Search.{any_below}
 use Rattle.bits.specs.Bits.{bit, frame_bit}
 use Rattle.table.specs.declared.Counts.{Counts}
 use Rattle.table.specs.Records.{receiving, sending, counts, ipdu_record, object_record}
-use Rattle.calls.specs.declared.Answer.{Answer}
+use Rattle.calls.specs.Answers.{Answer}
 use Rattle.calls.specs.Answers.{Outcome, number_of, value_of}
 use Rattle.layer.specs.Step.{Call, start, send, tick, Lent, no_area, requests, lent_bytes, Told, told_start, told_stop, told_send, told_initialise, told_nothing, describe, step, run}
 use Rattle.group.specs.Groups.{Group, GroupOutcome, group_step}

@@ -1,7 +1,7 @@
 -- Demand 1 over calls and lists of calls: what a refused call leaves, when 6 is answered, and memory that was never started.
 -- Assumes nothing.
 use Rattle.std.specs.Prelude.{true, List, [], ◌∷◌, ◌⊎◌, ◌≡◌, ℕ}
-use Rattle.calls.specs.declared.Answer.{Answer}
+use Rattle.calls.specs.Answers.{Answer}
 use Rattle.calls.specs.Answers.{Outcome, number_of}
 use Rattle.layer.specs.Step.{Call, receive}
 use Rattle.group.specs.Groups.{Group, GroupOutcome}

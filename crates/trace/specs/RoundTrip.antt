@@ -12,7 +12,7 @@ use Rattle.table.specs.Rules.{order_of, signed_of}
 use Rattle.state.specs.Layout.{slot_at, object_state}
 use Rattle.message.specs.Objects.{object, passes_filter}
 use Rattle.queue.specs.Queues.{waiting}
-use Rattle.calls.specs.declared.Answer.TheVariants.{Done}
+use Rattle.calls.specs.Answers.{done_with}
 use Rattle.calls.specs.Answers.{Outcome, value_of}
 use Rattle.layer.specs.Admission.{working_memory}
 use Rattle.layer.specs.Step.{Call, start, receive, step, run, memory_after}
@@ -133,7 +133,7 @@ pub record Takes (t : List ℕ) (j v : ℕ) (m : List ℕ) : Type 0 where
 
 -- the value has arrived between two memories: an unqueued object gives it; in a queue that was not full it waits behind the others
 pub record Arrived (t : List ℕ) (j v : ℕ) (before after : List ℕ) : Type 0 where
-  pub unqueued : (object_record t (counts t).ipdus j).depth ≡ 0 → (step t (receive j) after).answer ≡ Done v
+  pub unqueued : (object_record t (counts t).ipdus j).depth ≡ 0 → (step t (receive j) after).answer ≡ done_with v
   pub queued : (object_state (working_memory before) j).count < (object_record t (counts t).ipdus j).depth
       → waiting (object_record t (counts t).ipdus j).depth j (working_memory after) ≡ waiting (object_record t (counts t).ipdus j).depth j (working_memory before) ++ (v ∷ [])
 

@@ -11,7 +11,9 @@ use state::{IpduState, SLOTS};
 use table::IpduNumber;
 
 // Stores the numbers of an I-PDU after a request was wanted. Where the request may go it is made: the I-PDU's bytes are handed
-// over in its slot of the area, and the answer is the word of the I-PDU; else the word is 0.
+// over in its slot of the area, and the answer is the word of the I-PDU; else the word is 0. The word is a power of two cut to 32 bits, as in
+// `bit_where` of ipdu_calls: a function for it would be as long as its two calls.
+#[tactic(auto, unfolding(crate::specs::Requests::after_request))]
 pub fn try_request(m: &mut [u8], area: &mut [u8], number: IpduNumber, p: Ipdu, s: IpduState) -> u32
     requires number_lt_most_ipdus { number.0 < most_ipdus }
     requires memory_size_in_bounds { (memory_size ≤ length m.old) × (area_size ≤ length area.old) × (p.length.0 ≤ 8) }
@@ -38,13 +40,17 @@ pub fn confirm(m: &mut [u8], number: IpduNumber, p: Ipdu, good: bool)
 }
 
 // Sets the receive timer of an I-PDU to its deadline.
+#[tactic(auto, unfolding(crate::specs::Requests::timer_set))]
 pub fn set_timer(m: &mut [u8], number: IpduNumber, p: Ipdu)
     requires { (number.0 < most_ipdus) × (memory_size ≤ length m.old) }
     ensures { m.new ≡ with_ipdu_state m.old number.0 (timer_set p (ipdu_state m.old number.0)) }
 {
-    let mut s = state::ipdu_state(m, number);
-    s.timer = p.deadline;
-    state::set_ipdu_state(m, number, s);
+    let s = state::ipdu_state(m, number);
+    let next = IpduState {
+        timer: p.deadline,
+        ..s
+    };
+    state::set_ipdu_state(m, number, next);
 }
 
 // Whether a request may go.
@@ -52,49 +58,47 @@ fn may_go(mode: Mode, s: IpduState) -> bool
     ensures { result ≡ may_go mode s }
 {
     let idle = (s.delay == 0) & (s.requested == 0);
-    match mode {
-        Mode::Direct => idle,
-        Mode::Periodic => true,
-        Mode::Mixed => idle,
-    }
+    (mode == Mode::Periodic) | idle
 }
 
 // Whether a request is wanted and may go.
+#[tactic(auto, unfolding(crate::specs::Requests::is_due))]
 fn is_due(p: Ipdu, s: IpduState) -> bool
     ensures { result ≡ is_due p s }
 {
-    let mode = p.mode;
-    let free = may_go(mode, s);
-    (s.wanted == 1) & free
+    (s.wanted == 1) & may_go(p.mode, s)
 }
 
 // The numbers of an I-PDU after a request was made.
+#[tactic(auto, unfolding(crate::specs::Requests::request_made))]
 fn request_made(p: Ipdu, s: IpduState) -> IpduState
     ensures { result ≡ request_made p s }
 {
-    let mut next = s;
-    next.requested = 1;
-    next.wanted = 0;
-    if s.requested == 0 {
-        next.deadline = p.deadline;
-        return next;
+    let deadline = if s.requested == 0 {
+        p.deadline
+    } else {
+        s.deadline
+    };
+    IpduState {
+        requested: 1,
+        wanted: 0,
+        deadline,
+        ..s
     }
-    next
 }
 
 // The numbers of an I-PDU after a confirm.
+#[tactic(auto, unfolding(crate::specs::Requests::confirmed))]
 fn confirmed(good: bool, p: Ipdu, s: IpduState) -> IpduState
     ensures { result ≡ confirmed good p s }
 {
-    let mut next = s;
-    next.requested = 0;
-    next.deadline = 0;
-    if good {
-        next.delay = p.minimum_delay;
-        return next;
+    let delay = if good { p.minimum_delay } else { 0 };
+    IpduState {
+        requested: 0,
+        deadline: 0,
+        delay,
+        ..s
     }
-    next.delay = 0;
-    next
 }
 
 // Copies an I-PDU's bytes into its slot of the request area, with zeros to 8.
@@ -108,13 +112,15 @@ fn copy_to_area(m: &[u8], area: &mut [u8], number: IpduNumber, size: ByteLength)
 }
 
 // The number of the first bytes of a word.
+#[tactic(auto, using(memory::proofs::Parts::bytes_bits))]
 fn low_bytes(word: u64, size: ByteLength) -> u64
     requires { size.0 ≤ 8 }
     ensures { result ≡ word % 256 ^ size.0 }
 {
     let n = size.0;
     if n == 8 {
-        return word;
+        word
+    } else {
+        word % bits::power_of_two(8 * n)
     }
-    word % bits::power_of_two(8 * n)
 }

@@ -4,11 +4,11 @@ use Rattle.std.proofs.Common.{rules}
 use Rattle.message.proofs.ObjectsInRange.{right_start, decoded_held, decoded_count}
 use Rattle.delivery.proofs.deliver_to.Goals as goal
 
-pub decode_object-requires : goal.decode_object-requires
-decode_object-requires c = record { number_in_bounds = search rules; number_bound = search (rules, right_start) }
+pub decode_object-requires-clause-number_bound : goal.decode_object-requires-clause-number_bound
+decode_object-requires-clause-number_bound c = search (rules, right_start)
 
-pub deliver-requires : goal.deliver-requires
-deliver-requires c = record { held = search (rules, decoded_held); count_fits = search (rules, decoded_count) }
+pub deliver-requires-clause-held : goal.deliver-requires-clause-held
+deliver-requires-clause-held c = search (rules, decoded_held)
 
-pub returns : goal.returns
-returns c = cc
+pub deliver-requires-clause-count_fits : goal.deliver-requires-clause-count_fits
+deliver-requires-clause-count_fits c = search (rules, decoded_count)

@@ -2,25 +2,22 @@
 -- Assumes nothing.
 use Rattle.std.proofs.Common.{rules}
 use Rattle.layer.specs.Step.{step}
-use Rattle.layer.proofs.Admitted.{admitted_long, admitted_exact, admitted_ready, admitted_area, admitted_gives, refused_gives}
+use Rattle.layer.proofs.Admitted.{admitted_long, admitted_exact, admitted_ready, admitted_area, admitted_gives, refused_passed}
 use Rattle.layer.proofs.send.Goals as goal
 
-pub slice_bounds-send-end : goal.slice_bounds-send-end
+pub returns-in_err-c : goal.returns-in_err-c
 unfolding step
-slice_bounds-send-end c = search (rules, admitted_long)
+returns-in_err-c c = refused_passed _ c.admit.ensures c.in_err-c.was c.from_residual.ensures.1
 
-pub slice_bounds-send-end-in-Admitted : goal.slice_bounds-send-end-in-Admitted
-unfolding step
-slice_bounds-send-end-in-Admitted c = search (rules, admitted_exact)
+pub slice_bounds-send-end : goal.slice_bounds-send-end
+slice_bounds-send-end c = admitted_long c.admit.ensures c.in_ok-c.was
+
+pub slice_bounds-send-end-2 : goal.slice_bounds-send-end-2
+slice_bounds-send-end-2 c = search (rules, admitted_exact c.admit.ensures c.in_ok-c.was)
 
 pub send-requires : goal.send-requires
-unfolding step
-send-requires c = record { ready = search (rules, admitted_ready); area_size_in_bounds = search (rules, admitted_area) }
+send-requires c = record { ready = admitted_ready c.admit.ensures c.in_ok-c.was; area_size_in_bounds = admitted_area c.admit.ensures c.in_ok-c.was }
 
-pub returns-in-Admitted : goal.returns-in-Admitted
+pub returns : goal.returns
 unfolding step
-returns-in-Admitted c = search (rules, admitted_gives)
-
-pub returns-in-Refused : goal.returns-in-Refused
-unfolding step
-returns-in-Refused c = search (rules, refused_gives)
+returns c = admitted_gives _ _ c.admit.ensures c.in_ok-c.was c.send.ensures

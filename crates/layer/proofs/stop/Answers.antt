@@ -1,26 +1,23 @@
--- `layer::stop`: admitted, memory has a first byte; refused, all bytes stay.
+-- `layer::stop`: admitted, table and memory are what the inner call asks for; refused, all bytes stay.
 -- Assumes nothing.
 use Rattle.std.proofs.Common.{rules}
 use Rattle.layer.specs.Step.{step}
-use Rattle.layer.proofs.Admitted.{admitted_long, admitted_exact, admitted_some, admitted_gives, refused_gives}
+use Rattle.layer.proofs.Admitted.{admitted_long, admitted_exact, admitted_some, admitted_gives, refused_passed}
 use Rattle.layer.proofs.stop.Goals as goal
 
-pub slice_bounds-stop-end : goal.slice_bounds-stop-end
+pub returns-in_err-admit : goal.returns-in_err-admit
 unfolding step
-slice_bounds-stop-end c = search (rules, admitted_long)
+returns-in_err-admit c = refused_passed _ c.admit.ensures c.in_err-admit.was c.from_residual.ensures.1
 
-pub slice_bounds-stop-end-in-Admitted : goal.slice_bounds-stop-end-in-Admitted
-unfolding step
-slice_bounds-stop-end-in-Admitted c = search (rules, admitted_exact)
+pub slice_bounds-stop-end : goal.slice_bounds-stop-end
+slice_bounds-stop-end c = admitted_long c.admit.ensures c.in_ok-admit.was
+
+pub slice_bounds-stop-end-2 : goal.slice_bounds-stop-end-2
+slice_bounds-stop-end-2 c = search (rules, admitted_exact c.admit.ensures c.in_ok-admit.was)
 
 pub stop-requires : goal.stop-requires
-unfolding step
-stop-requires c = search (rules, admitted_some)
+stop-requires c = admitted_some c.admit.ensures c.in_ok-admit.was
 
-pub returns-in-Admitted : goal.returns-in-Admitted
+pub returns : goal.returns
 unfolding step
-returns-in-Admitted c = search (rules, admitted_gives)
-
-pub returns-in-Refused : goal.returns-in-Refused
-unfolding step
-returns-in-Refused c = search (rules, refused_gives)
+returns c = admitted_gives _ _ c.admit.ensures c.in_ok-admit.was c.stop.ensures

@@ -5,4 +5,4 @@ use Rattle.memory.proofs.Parts.{number_two}
 use Rattle.memory.proofs.read16.Goals as goal
 
 pub returns : goal.returns
-returns c = rw number_two (omega arith)
+returns c = rw number_two (omega (arith, c.from_le_bytes.ensures))

@@ -5,4 +5,4 @@ use Rattle.memory.proofs.Parts.{number_four}
 use Rattle.memory.proofs.read32.Goals as goal
 
 pub returns : goal.returns
-returns c = rw number_four (omega arith)
+returns c = rw number_four (omega (arith, c.from_le_bytes.ensures))

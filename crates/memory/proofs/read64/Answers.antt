@@ -5,4 +5,4 @@ use Rattle.memory.proofs.Parts.{number_eight}
 use Rattle.memory.proofs.read64.Goals as goal
 
 pub returns : goal.returns
-returns c = rw number_eight (omega arith)
+returns c = rw number_eight (omega (arith, c.from_le_bytes.ensures))

@@ -4,8 +4,5 @@ use Rattle.std.proofs.Common.{arith}
 use Rattle.memory.proofs.Parts.{number_one}
 use Rattle.memory.proofs.read8.Goals as goal
 
-pub overflow_cast-result : goal.overflow_cast-result
-overflow_cast-result c = omega (arith, c.type_inv.m c.args.at)
-
 pub returns : goal.returns
-returns c = rw number_one (omega (arith, c.type_inv.m c.args.at))
+returns c = rw number_one (omega (arith, c.from.ensures, c.type_inv.m c.args.at))

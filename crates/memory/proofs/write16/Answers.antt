@@ -1,14 +1,8 @@
--- `memory::write16`: a run of stores replaces a part (`sets_replaced`).
+-- `memory::write16`: std's bytes of a number are its bytes (`put_low`).
 -- Assumes nothing.
-use Rattle.std.proofs.Common.{add-one, arith, length-set}
-use Rattle.memory.specs.Bytes.{bytes_of}
-use Rattle.memory.proofs.Parts.{sets_replaced}
+use Rattle.std.proofs.Common.{ap, take}
+use Rattle.memory.proofs.Parts.{put_low}
 use Rattle.memory.proofs.write16.Goals as goal
 
-pub bounds-m-b : goal.bounds-m-b
-unfolding bytes_of
-bounds-m-b c = simp length-set (omega arith)
-
 pub returns : goal.returns
-unfolding bytes_of
-returns c = simp add-one (sets_replaced c.args.at (bytes_of 2 c.args.x) c.args.m.now (omega arith))
+returns c = put_low 2 _ c.args.x _ c.put.ensures (ap (take 2) c.to_le_bytes.ensures)

@@ -1,42 +1,7 @@
--- `memory::write64`: a run of stores replaces a part (`sets_replaced`).
+-- `memory::write64`: std's bytes of a number are its bytes (`put_low`).
 -- Assumes nothing.
-use Rattle.std.proofs.Common.{add-one, arith, length-set}
-use Rattle.memory.proofs.Parts.{sets_replaced}
-use Rattle.memory.specs.Bytes.{bytes_of}
+use Rattle.memory.proofs.Parts.{put_low}
 use Rattle.memory.proofs.write64.Goals as goal
 
-pub bounds-m-b : goal.bounds-m-b
-unfolding bytes_of
-bounds-m-b c = simp length-set (omega arith)
-
-pub bounds-m-c : goal.bounds-m-c
-unfolding bytes_of
-bounds-m-c c = simp length-set (omega arith)
-
-pub bounds-m-d : goal.bounds-m-d
-unfolding bytes_of
-bounds-m-d c = simp length-set (omega arith)
-
-pub bounds-m-e : goal.bounds-m-e
-unfolding bytes_of
-bounds-m-e c = simp length-set (omega arith)
-
-pub bounds-m-f : goal.bounds-m-f
-unfolding bytes_of
-bounds-m-f c = simp length-set (omega arith)
-
-pub bounds-m-g : goal.bounds-m-g
-unfolding bytes_of
-bounds-m-g c = simp length-set (omega arith)
-
-pub bounds-m-h : goal.bounds-m-h
-unfolding bytes_of
-bounds-m-h c = simp length-set (omega arith)
-
-pub shape_of-m : goal.shape_of-m
-unfolding bytes_of
-shape_of-m c = simp length-set
-
 pub returns : goal.returns
-unfolding bytes_of
-returns c = simp add-one (sets_replaced c.args.at (bytes_of 8 c.args.x) c.args.m.now (omega arith))
+returns c = put_low 8 _ c.args.x _ c.put.ensures c.to_le_bytes.ensures

@@ -1,10 +1,8 @@
--- `memory::write8`: a store replaces a byte (`sets_replaced`).
+-- `memory::write8`: std's bytes of a number are its bytes (`put_low`).
 -- Assumes nothing.
-use Rattle.std.proofs.Common.{arith}
-use Rattle.memory.specs.Bytes.{bytes_of}
-use Rattle.memory.proofs.Parts.{sets_replaced}
+use Rattle.std.proofs.Common.{ap, take}
+use Rattle.memory.proofs.Parts.{put_low}
 use Rattle.memory.proofs.write8.Goals as goal
 
 pub returns : goal.returns
-unfolding bytes_of
-returns c = sets_replaced c.args.at (bytes_of 1 c.args.x) c.args.m.now (omega arith)
+returns c = put_low 1 _ c.args.x _ c.put.ensures (ap (take 1) c.to_le_bytes.ensures)

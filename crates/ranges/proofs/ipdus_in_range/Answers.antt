@@ -8,7 +8,7 @@ pub returns-then-not-ipdu_in_range : goal.returns-then-not-ipdu_in_range
 returns-then-not-ipdu_in_range c = search (rules, ipdu_out_lem)
 
 pub loop-k-preserved : goal.loop-k-preserved
-loop-k-preserved c = (search rules, search (rules, ipdus_upto))
+loop-k-preserved c = search (rules, ipdus_upto)
 
 pub returns : goal.returns
 returns c = search (rules, none_out)

@@ -1,18 +1,21 @@
--- `ranges::nothing_sent`: numbers that are read together are 0 where each is.
+-- `ranges::nothing_sent`: the tests are those of the definition, at numbers that are read two at a time.
 -- Assumes nothing.
-use Rattle.std.proofs.Common.{rules}
-use Rattle.ranges.proofs.RowReads.{flags_read, running_read, ticks_read, countdown_read}
-use Rattle.ranges.proofs.IpduRanges.{flags_some, running_some, ticks_some, no_countdown}
+use Rattle.std.proofs.Common.{arith, refl, add-zero}
+use Rattle.std.proofs.lemmas.Grind.{common_steps}
+use Rattle.state.specs.Layout.{ipdu_state}
+use Rattle.ranges.proofs.RowReads.{flags_read, ticks_read}
 use Rattle.ranges.proofs.nothing_sent.Goals as goal
 
-pub returns-then-read16-ne0 : goal.returns-then-read16-ne0
-returns-then-read16-ne0 c = search (rules, flags_some, flags_read)
+pub returns-then-read32-eq0 : goal.returns-then-read32-eq0
+unfolding ipdu_state
+returns-then-read32-eq0 c =
+    let flags = flags_read c.args.m.now c.args.number.0 refl in
+    let ticks = ticks_read c.args.m.now c.args.number.0 refl in
+    grind (arith, common_steps, add-zero, flags, ticks)
 
-pub returns-then-read8-ne0 : goal.returns-then-read8-ne0
-returns-then-read8-ne0 c = search (rules, running_some, flags_read, running_read)
-
-pub returns-then-read32-ne0 : goal.returns-then-read32-ne0
-returns-then-read32-ne0 c = search (rules, ticks_some, flags_read, running_read, ticks_read)
-
-pub returns : goal.returns
-returns c = search (rules, no_countdown, flags_read, running_read, ticks_read, countdown_read)
+pub returns-else-read32-eq0 : goal.returns-else-read32-eq0
+unfolding ipdu_state
+returns-else-read32-eq0 c =
+    let flags = flags_read c.args.m.now c.args.number.0 refl in
+    let ticks = ticks_read c.args.m.now c.args.number.0 refl in
+    grind (arith, common_steps, add-zero, flags, ticks)

@@ -18,8 +18,7 @@ overflow_add-queue c = record { fits = search (rules, queue_fits, depth_limit) }
 pub loop-i-preserved : goal.loop-i-preserved
 loop-i-preserved c =
     let inv = c.loop-i.invariant in (
-      search rules,
-      objects_upto _ c.args.c _ (in_units _ inv.2) _ c.object_in_range.ensures c.if-not-object_in_range.false inv.1,
+      objects_upto _ c.args.c _ (in_units _ inv.1) _ c.object_in_range.ensures c.if-not-object_in_range.false inv.0,
       search (rules, next_queue, depth_limit),
     )
 

@@ -1,7 +1,6 @@
--- `layer::starting::start_objects`: the invariant is the turns of the objects passed, and the sum of their depths.
+-- `startup::start_objects`: the invariant is the turns of the objects passed, and the sum of their depths.
 -- Assumes nothing.
 use Rattle.std.proofs.Common.{rules}
-use Rattle.memory.proofs.Search.{turns_done}
 use Rattle.message.proofs.ObjectsInRange.{right_start}
 use Rattle.startup.proofs.Fresh.{starts_placed, first_fits, first_more, objects_more}
 use Rattle.startup.proofs.start_objects.Goals as goal
@@ -16,7 +15,4 @@ pub overflow_add-first : goal.overflow_add-first
 overflow_add-first c = record { fits = search (rules, first_fits) }
 
 pub loop-i-preserved : goal.loop-i-preserved
-loop-i-preserved c = (search rules, search (rules, objects_more), search rules, search (rules, first_more))
-
-pub returns : goal.returns
-returns c = search (rules, turns_done)
+loop-i-preserved c = (search (rules, objects_more), search rules, search (rules, first_more))

@@ -1,4 +1,4 @@
--- `layer::starting::write_all`: its four steps are those of the definition.
+-- `startup::write_all`: its four steps are those of the definition.
 -- Assumes nothing.
 use Rattle.std.proofs.Common.{rules}
 use Rattle.startup.proofs.Fresh.{all_written}

@@ -12,10 +12,6 @@ turned_round : {number p : ℕ} → p < 64 → tabulate 64 (λ k. bit_xor k numb
 turned_round {number} {p} h same =
     sym (tabulate_at 64 (λ k. bit_xor k number) p h) ∙ ap (λ (l : List ℕ). get_or l p 0) same ∙ tabulate_at 64 (position Big) p h
 
-pub returns-in-Little : goal.returns-in-Little
-unfolding position
-returns-in-Little c = rw c.in-Little.is
-
 -- the code's number is the one that the 64 computed places ask for
 pub returns-in-Big : goal.returns-in-Big
 unfolding position

@@ -14,5 +14,5 @@ put_answer-requires c =
 
 pub returns : goal.returns
 returns c =
-    let got = gave_own c.args.bytes.now c.args.area.now c.requires.checked c.call-answer.ensures.area_after c.call-answer.ensures.ready_2 c.put_answer.ensures in
-    record { own_gave = got.0; upper_bound = got.1.0; checked_2 = got.1.1 }
+    let got = gave_own c.args.bytes.now c.args.area.now c.requires.checked c.call-answer.ensures.area_after c.call-answer.ensures.still_ready c.put_answer.ensures in
+    record { own_gave = got.0; upper_bound = got.1.0; still_checked = got.1.1 }

@@ -4,8 +4,8 @@ use Rattle.std.proofs.Common.{rules}
 use Rattle.driver.proofs.LineLaws.{line_answered, line_refused}
 use Rattle.driver.proofs.lines.end_line.Goals as goal
 
-pub returns-in-Readable : goal.returns-in-Readable
-returns-in-Readable c = search (rules, line_answered)
+pub returns-in-Some : goal.returns-in-Some
+returns-in-Some c = search (rules, line_answered)
 
-pub returns-in-Unreadable : goal.returns-in-Unreadable
-returns-in-Unreadable c = search (rules, line_refused)
+pub returns-in-None : goal.returns-in-None
+returns-in-None c = search (rules, line_refused)

@@ -1,11 +1,7 @@
 -- `driver::lines::make`: the bytes spelt are those of the frame.
 -- Assumes nothing.
-use Rattle.std.proofs.Common.{rules}
-use Rattle.driver.proofs.LineLaws.{spelt_count, spelt_gave}
+use Rattle.driver.proofs.LineLaws.{spelt_gave}
 use Rattle.driver.proofs.lines.make.Goals as goal
 
-pub slice_bounds-perform-end : goal.slice_bounds-perform-end
-slice_bounds-perform-end c = search (rules, spelt_count)
-
-pub returns : goal.returns
-returns c = record { effect_gave = search (rules, spelt_gave); end_bound = search rules; holds_2 = search rules }
+pub returns-clause-effect_gave : goal.returns-clause-effect_gave
+returns-clause-effect_gave c = spelt_gave c.args.frame c.requires.length_bound c.args.area.now c.args.m.now _ c.spelt-bytes.ensures c.perform.ensures.effect_gave

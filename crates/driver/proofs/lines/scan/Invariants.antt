@@ -1,14 +1,9 @@
 -- `driver::lines::scan`: each byte that is no line feed changes the reader alone (`scan_more`).
 -- Assumes nothing.
-use Rattle.std.proofs.Common.{false, List, ◌≡◌, ℕ, ◌-◌, ◌≤◌, length, take, drop}
+use Rattle.std.proofs.Common.{false, List, ◌≡◌, ℕ, ◌-◌, take, drop}
 use Rattle.script_run.specs.Parts.{Board, with_reader, advanced}
 use Rattle.driver.proofs.lines.scan.Given as goal
 
 abbrev pub invariant-loop-at : goal.invariant-loop-at
 invariant-loop-at l =
-    (l.from ≤ l.at)
-    × (l.at ≤ length l.part)
-    × ((t : List ℕ) (b : Board) → b.ended ≡ false → b.reader ≡ l.initial.line → advanced t b (take (l.at - l.from) (drop l.from l.part)) ≡ with_reader b l.line)
-
-abbrev pub decreases-loop-at : goal.decreases-loop-at
-decreases-loop-at l = l.n - l.at
+    (t : List ℕ) (b : Board) → b.ended ≡ false → b.reader ≡ l.initial.line → advanced t b (take (l.at - l.from) (drop l.from l.part)) ≡ with_reader b l.line

@@ -1,4 +1,4 @@
--- `calls::frames::good_indication`: bytes of the length of the I-PDU fit its slot, and leave the stored numbers in range.
+-- `ipdu_calls::frames::good_indication`: bytes of the length of the I-PDU fit its slot, and leave the stored numbers in range.
 -- Assumes nothing.
 use Rattle.std.proofs.Common.{rules}
 use Rattle.memory.specs.Bytes.{Bytes}

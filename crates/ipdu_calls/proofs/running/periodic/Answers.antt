@@ -1,4 +1,4 @@
--- `calls::running::periodic`: it sets the periods.
+-- `ipdu_calls::running::periodic`: it sets the periods.
 -- Assumes nothing.
 use Rattle.calls.specs.Calls.{periodic_in}
 use Rattle.ipdu_calls.proofs.running.periodic.Goals as goal

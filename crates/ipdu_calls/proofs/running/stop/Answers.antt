@@ -1,4 +1,4 @@
--- `calls::running::stop`: it writes that the layer does not run.
+-- `ipdu_calls::running::stop`: it writes that the layer does not run.
 -- Assumes nothing.
 use Rattle.state.specs.Layout.{with_running}
 use Rattle.calls.specs.Calls.{stop_in}

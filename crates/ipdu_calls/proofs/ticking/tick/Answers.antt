@@ -1,16 +1,13 @@
 -- `ipdu_calls::ticking::tick`: the invariant is what the I-PDUs passed gave with nothing marked; marks last come to the definition.
 -- Assumes nothing.
-use Rattle.std.proofs.Common.{rules, refl, arith}
+use Rattle.std.proofs.Common.{rules}
 use Rattle.calls.proofs.Ticks.{ipdu_few}
 use Rattle.ipdu_calls.proofs.RowTicks.{row_word_more, row_word_fits, due_word_more, due_word_fits, row_more, due_more}
 use Rattle.ipdu_calls.proofs.MarkedOnce.{ticked_marked, ticked_unmarked}
 use Rattle.ipdu_calls.proofs.ticking.tick.Goals as goal
 
-pub loop-k-init : goal.loop-k-init
-loop-k-init c = (search rules, refl, refl, omega arith, omega arith, refl, refl)
-
-pub tick_ipdu-turn-requires : goal.tick_ipdu-turn-requires
-tick_ipdu-turn-requires c = record { number_in_bounds = (search rules, search (rules, ipdu_few)); number_lt_most_ipdus = search rules }
+pub tick_ipdu-turn-requires-clause-number_in_bounds : goal.tick_ipdu-turn-requires-clause-number_in_bounds
+tick_ipdu-turn-requires-clause-number_in_bounds c = (search rules, search (rules, ipdu_few))
 
 pub overflow_add-word : goal.overflow_add-word
 overflow_add-word c = record { fits = search (rules, row_word_fits) }
@@ -20,7 +17,6 @@ overflow_add-due c = record { fits = search (rules, due_word_fits) }
 
 pub loop-k-preserved : goal.loop-k-preserved
 loop-k-preserved c = (
-  search rules,
   search (rules, row_more),
   search (rules, due_more),
   search (rules, row_word_more),

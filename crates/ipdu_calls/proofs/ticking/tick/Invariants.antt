@@ -1,19 +1,15 @@
 -- `ipdu_calls::ticking::tick`: the invariant is what the I-PDUs passed gave with nothing marked; marks last come to the definition.
 -- Assumes nothing.
-use Rattle.std.proofs.Common.{◌≡◌, ◌-◌, ◌^◌, ◌≤◌, ◌<◌, length}
+use Rattle.std.proofs.Common.{◌≡◌, ◌^◌, ◌<◌, length}
 use Rattle.calls.specs.Tick.{tick_result}
 use Rattle.ipdu_calls.specs.RowTicks.{row_ticks, due_word}
 use Rattle.ipdu_calls.proofs.ticking.tick.Given as goal
 
 abbrev pub invariant-loop-k : goal.invariant-loop-k
 invariant-loop-k l =
-    (l.k ≤ l.n)
-    × (tick_result l.word l.m l.area ≡ row_ticks l.t l.k l.initial.area l.initial.m)
+    (tick_result l.word l.m l.area ≡ row_ticks l.t l.k l.initial.area l.initial.m)
     × (l.due ≡ due_word l.t l.k l.initial.area l.initial.m)
     × (l.word < 2 ^ l.k)
     × (l.due < 2 ^ l.k)
     × (length l.m ≡ length l.initial.m)
     × (length l.area ≡ length l.initial.area)
-
-abbrev pub decreases-loop-k : goal.decreases-loop-k
-decreases-loop-k l = l.n - l.k

@@ -9,6 +9,3 @@ pub returns-then-s-eq0 : goal.returns-then-s-eq0
 returns-then-s-eq0 c =
     let bytes : Bytes c.args.m.now = λ i. (c.slice_known-1.given i).fits in
     record { row = search (rules, receive_idle); due = search (rules, receive_none_due) }
-
-pub returns : goal.returns
-returns c = record { row = cc; due = cc }

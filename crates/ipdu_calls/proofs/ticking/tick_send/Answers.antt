@@ -3,19 +3,9 @@
 use Rattle.std.proofs.Common.{rules}
 use Rattle.memory.specs.Bytes.{Bytes}
 use Rattle.ipdu_calls.proofs.Idle.{send_idle, send_none_due}
-use Rattle.ipdu_calls.proofs.RowTicks.{sent_row}
 use Rattle.ipdu_calls.proofs.ticking.tick_send.Goals as goal
 
 pub returns-then-r : goal.returns-then-r
 returns-then-r c =
     let bytes : Bytes c.args.m.now = λ i. (c.slice_known-1.given i).fits in
     record { row = search (rules, send_idle); due = search (rules, send_none_due) }
-
-pub bit_where-due-requires : goal.bit_where-due-requires
-bit_where-due-requires c = c.requires.0
-
-pub try_request-requires : goal.try_request-requires
-try_request-requires c = search (rules, c.requires)
-
-pub returns : goal.returns
-returns c = record { row = search (rules, sent_row); due = cc }

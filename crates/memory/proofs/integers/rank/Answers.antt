@@ -9,6 +9,6 @@ pub returns : goal.returns
 unfolding rank
 returns c =
     elim c.if-signed.branch [
-      | then-signed w ↦ rw w.if-signed.true (omega (arith, c.wrapping_add_u32.ensures.value, w.wrapping_add_u32-is))
-      | else-signed w ↦ rw w.if-signed.false (omega (arith, c.wrapping_add_u32.ensures.value, w.wrapping_add_u32-is, c.ranges.v.fits))
+      | then-signed w ↦ rw w.if-signed.true (omega (arith, w.result-is))
+      | else-signed w ↦ rw w.if-signed.false (omega (arith, w.result-is, c.ranges.v.fits))
     ]

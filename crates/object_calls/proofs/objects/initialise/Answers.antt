@@ -1,4 +1,4 @@
--- `calls::objects::initialise`: an object of the table is decoded, and set where it lies.
+-- `object_calls::objects::initialise`: an object of the table is decoded, and set where it lies.
 -- Assumes nothing.
 use Rattle.std.proofs.Common.{rules}
 use Rattle.calls.specs.Calls.{initialise_in}
@@ -6,17 +6,17 @@ use Rattle.message.proofs.ObjectsInRange.{right_start, decoded_placed}
 use Rattle.calls.proofs.Outcomes.{past_all, initialised}
 use Rattle.object_calls.proofs.objects.initialise.Goals as goal
 
-pub returns-then-n-number : goal.returns-then-n-number
+pub returns-then-c-number : goal.returns-then-c-number
 unfolding initialise_in
-returns-then-n-number c = search (rules, past_all)
+returns-then-c-number c = search (rules, past_all)
 
-pub decode_object-requires : goal.decode_object-requires
+pub decode_object-requires-clause-number_bound : goal.decode_object-requires-clause-number_bound
 unfolding initialise_in
-decode_object-requires c = record { number_in_bounds = search rules; number_bound = search (rules, right_start) }
+decode_object-requires-clause-number_bound c = search (rules, right_start)
 
-pub initialise-requires : goal.initialise-requires
+pub initialise-requires-clause-placed : goal.initialise-requires-clause-placed
 unfolding initialise_in
-initialise-requires c = record { row_size_in_bounds = search rules; placed = search (rules, decoded_placed) }
+initialise-requires-clause-placed c = search (rules, decoded_placed)
 
 pub returns : goal.returns
 unfolding initialise_in

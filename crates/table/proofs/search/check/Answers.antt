@@ -11,25 +11,19 @@ unfolding check
 returns-then-not-header_right c = rw (tested_false c.header_right.ensures c.if-not-header_right.true)
 
 pub header_counts-c-requires : goal.header_counts-c-requires
-unfolding check
 header_counts-c-requires c = search (rules, header_long, tested_true)
 
-pub first_wrong_ipdu-k-requires : goal.first_wrong_ipdu-k-requires
-unfolding check
-first_wrong_ipdu-k-requires c = search (rules, counts_shape, tested_true)
+pub first_wrong_ipdu-requires : goal.first_wrong_ipdu-requires
+first_wrong_ipdu-requires c = search (rules, counts_shape, tested_true)
 
-pub returns-then-k-c : goal.returns-then-k-c
-unfolding check
-returns-then-k-c c = search (rules, names_ipdu, tested_true)
+pub returns-in-Some : goal.returns-in-Some
+returns-in-Some c = search (rules, names_ipdu, tested_true)
 
-pub first_wrong_object-i-requires : goal.first_wrong_object-i-requires
-unfolding check
-first_wrong_object-i-requires c = record { shape = search (rules, counts_shape, tested_true); ipdus_right = search (rules, none_found) }
+pub first_wrong_object-requires : goal.first_wrong_object-requires
+first_wrong_object-requires c = record { shape = search (rules, counts_shape, tested_true); ipdus_right = search (rules, none_found) }
 
-pub returns-then-i-c : goal.returns-then-i-c
-unfolding check
-returns-then-i-c c = search (rules, names_object, tested_true)
+pub returns-in-Some-first_wrong_object : goal.returns-in-Some-first_wrong_object
+returns-in-Some-first_wrong_object c = search (rules, names_object, tested_true)
 
 pub returns : goal.returns
-unfolding check
 returns c = search (rules, accepts, tested_true)
