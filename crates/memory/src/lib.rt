@@ -84,7 +84,7 @@ pub fn write32(m: &mut [u8], at: usize, x: u32)
     requires { at + 4 ≤ length m.old }
     ensures { m.new ≡ replaced at (bytes_of 4 x) m.old }
 {
-    put(m, at, &x.to_le_bytes());
+    put(m, at, &x.to_le_bytes()[..4]);
 }
 
 // Puts a number into the eight bytes from `at` on.
@@ -92,7 +92,7 @@ pub fn write64(m: &mut [u8], at: usize, x: u64)
     requires { at + 8 ≤ length m.old }
     ensures { m.new ≡ replaced at (bytes_of 8 x) m.old }
 {
-    put(m, at, &x.to_le_bytes());
+    put(m, at, &x.to_le_bytes()[..8]);
 }
 
 // Sets each byte to 0.
