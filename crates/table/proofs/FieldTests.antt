@@ -1,6 +1,6 @@
 -- The tests of an object record's filter, place, transfer property and depth, in the order of the code: what each says of the fields. x, y and z are numbers that were read.
 -- Assumes nothing.
-use Rattle.std.proofs.Common.{Bool, true, false, ◌&&◌, ⊎_elim, ◌≡◌, refl, sym, ◌∙◌, ℕ, ◌+◌, ◌-◌, ◌*◌, ◌/◌, ◌%◌, ◌^◌, ◌≤◌, ◌<◌, arith, eq-eqb, ne_eqb, le-leb, lt-ltb, le-ltb, leb, eqb}
+use Rattle.std.proofs.Common.{Bool, true, false, ◌&&◌, ◌||◌, ⊎_elim, ◌≡◌, refl, sym, ◌∙◌, ℕ, ◌+◌, ◌-◌, ◌*◌, ◌/◌, ◌%◌, ◌^◌, ◌≤◌, ◌<◌, arith, eq-eqb, ne_eqb, le-leb, lt-ltb, le-ltb, leb, ltb, eqb}
 use borrow.Author.Tests.{lt-leb}
 use Rattle.memory.specs.Search.{pick}
 use Rattle.memory.proofs.Tests.{and_false, lt_or_le, eq_or_ne}
@@ -11,8 +11,19 @@ use Rattle.bits.proofs.Places.{position_lt}
 use Rattle.filter.specs.Filters.{filter_right}
 use Rattle.filter.proofs.Laws.{no_constants}
 use Rattle.table.specs.declared.ObjectRecord.{ObjectRecord}
-use Rattle.table.specs.Records.{sending}
+use Rattle.table.specs.Records.{sending, absent}
 use Rattle.table.specs.Inner.{filter_field, place_field, transfer_and_depth}
+
+-- ---- the sender
+
+pub no_sender : {x : ℕ} → x ≡ absent → (b : Bool) → true ≡ (eqb x absent || b)
+no_sender e b = rw (eq-eqb _ absent e)
+
+pub sender_past : {x n : ℕ} → (x ≡ absent → ⊥) → n ≤ x → (y : ℕ) → false ≡ (eqb x absent || eqb (pick (ltb x n) y 0) sending)
+sender_past {x} {n} some past y = rw (ne_eqb x absent some, le-ltb x n past)
+
+pub sender_kind : {x n y k : ℕ} → (x ≡ absent → ⊥) → x < n → k ≡ y → eqb k sending ≡ (eqb x absent || eqb (pick (ltb x n) y 0) sending)
+sender_kind {x} {n} some below same = rw (ne_eqb x absent some, lt-ltb x n below, same)
 
 -- ---- the filter
 
@@ -50,7 +61,19 @@ module _ (r : ObjectRecord) {x : ℕ} (number : x ≡ r.filter + 256 * r.zero_9 
 -- ---- the place
 
 module _ (r : ObjectRecord) (n : ℕ) {x : ℕ} (size : x ≡ r.size) where
+  pub no_size : x < 1 → false ≡ place_field r n
+  unfolding place_field
+  no_size h = rw (lt-leb 1 r.size (omega arith))
+
+  pub size_past : 32 < x → false ≡ place_field r n
+  unfolding place_field
+  size_past h = rw (le-leb 1 r.size (omega arith), lt-leb r.size 32 (omega arith))
+
   module _ (least : 1 ≤ x) (most : x ≤ 32) {y : ℕ} (order : y ≡ r.order) where
+    pub no_order : 3 < y → false ≡ place_field r n
+    unfolding place_field
+    no_order past = rw (le-leb 1 r.size (omega arith), le-leb r.size 32 (omega arith), lt-leb r.order 3 (omega arith))
+
     module _ (known : y ≤ 3) {z : ℕ} (start : z ≡ r.start) where
       pub little_room : y % 2 ≡ 0 → leb (z + x) (8 * n) ≡ place_field r n
       unfolding place_field room

@@ -1,16 +1,29 @@
 -- The tests of an I-PDU record, in the order of the code: what each says of `ipdu_right`. x, y and z are numbers that were read.
 -- Assumes nothing.
-use Rattle.std.proofs.Common.{true, false, not, ◌&&◌, ◌||◌, ⊎_elim, ◌≡◌, ◌∙◌, ℕ, ◌+◌, ◌*◌, ◌≤◌, arith, eqb-true, leb-true, eq-eqb, ne_eqb, le-leb, leb, eqb}
+use Rattle.std.proofs.Common.{true, false, not, ◌&&◌, ◌||◌, ⊎_elim, ◌≡◌, ◌∙◌, ℕ, ◌+◌, ◌*◌, ◌≤◌, ◌<◌, arith, eqb-true, leb-true, eq-eqb, ne_eqb, le-leb, leb, eqb}
 use Rattle.memory.proofs.Tests.{and_split, or_cases, eq_or_ne, never_true}
 use Rattle.table.specs.declared.IpduRecord.{IpduRecord}
 use Rattle.table.specs.Records.{sending, receiving}
 use Rattle.table.specs.Rules.{ipdu_right}
 use Rattle.table.specs.Inner.{Begun}
-use Rattle.table.proofs.Facts.{ipdu_facts, SendFacts, send_facts, ReceiveFacts, receive_facts}
+use Rattle.table.proofs.Facts.{ipdu_facts, direction_known, SendFacts, send_facts, ReceiveFacts, receive_facts}
 
 module _ (r : IpduRecord) where
   refused : (ipdu_right r ≡ true → ⊥) → false ≡ ipdu_right r
   refused = never_true (ipdu_right r)
+
+  pub no_length : {x : ℕ} → x ≡ r.length → x < 1 → false ≡ ipdu_right r
+  no_length e h = refused (λ f. omega (arith, (ipdu_facts r f).least))
+
+  pub long : {x : ℕ} → x ≡ r.length → 8 < x → false ≡ ipdu_right r
+  long e h = refused (λ f. omega (arith, (ipdu_facts r f).most))
+
+  pub tail_some : {x : ℕ} → x ≡ r.zero_14 → (x ≡ 0 → ⊥) → false ≡ ipdu_right r
+  tail_some e h = refused (λ f. h (e ∙ (ipdu_facts r f).tail))
+
+  pub no_direction : {x : ℕ} → x ≡ r.direction → (x ≡ sending → ⊥) → (x ≡ receiving → ⊥) → false ≡ ipdu_right r
+  no_direction e not-sent not-received =
+      refused (λ f. ⊎_elim (λ one. not-sent (e ∙ one)) (λ two. not-received (e ∙ two)) (direction_known r f))
 
   -- ---- a send I-PDU
 

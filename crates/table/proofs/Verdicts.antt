@@ -45,16 +45,17 @@ module _ (t : List ℕ) (c : Counts) (h : header_right t ≡ true) (here : c ≡
   unfolding check
   names_ipdu wrong named = rw (h, named, ← here, lt-ltb (least c.ipdus (wrong_ipdu t)) c.ipdus wrong)
 
-  module _ (none : least c.ipdus (wrong_ipdu t) ≡ c.ipdus) where
+  module _ (none : c.ipdus ≤ least c.ipdus (wrong_ipdu t)) where
     pub names_object : {w : ObjectNumber} → least c.objects (wrong_object t c) < c.objects
         → w ≡ record { 0 = least c.objects (wrong_object t c) } → Err (Object w) ≡ check t
     unfolding check
     names_object wrong named =
-        rw (h, named, ← here, none, le-ltb c.ipdus c.ipdus (omega arith), lt-ltb (least c.objects (wrong_object t c)) c.objects wrong)
+        rw (h, named, ← here, le-ltb (least c.ipdus (wrong_ipdu t)) c.ipdus none, lt-ltb (least c.objects (wrong_object t c)) c.objects wrong)
 
-    pub accepts : least c.objects (wrong_object t c) ≡ c.objects → Ok c ≡ check t
+    pub accepts : c.objects ≤ least c.objects (wrong_object t c) → Ok c ≡ check t
     unfolding check
-    accepts right = rw (h, ← here, none, le-ltb c.ipdus c.ipdus (omega arith), right, le-ltb c.objects c.objects (omega arith))
+    accepts right =
+        rw (h, ← here, le-ltb (least c.ipdus (wrong_ipdu t)) c.ipdus none, le-ltb (least c.objects (wrong_object t c)) c.objects right)
 
 -- a place is at most the header's
 pub place_bound : (t : List ℕ) → place_of (check t) ≤ 65535

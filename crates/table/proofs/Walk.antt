@@ -13,16 +13,21 @@ use Rattle.table.proofs.Turns.{or_true}
 
 -- the first i objects are right, and depth is the sum of theirs
 pub record Passed (t : List ℕ) (c : Counts) (depth i : ℕ) : Type 0 where
+  pub within : i ≤ c.objects
   pub sum : depth ≡ depths t c i
   pub low : depth ≤ most_queued
   pub right : (j : ℕ) → j < i → wrong_object t c j ≡ false
 
 pub walk_starts : (t : List ℕ) (c : Counts) → Passed t c 0 0
-walk_starts t c = record { sum = refl; low = zero-le; right = λ j h. absurd (omega arith) }
+walk_starts t c = record { within = zero-le; sum = refl; low = zero-le; right = λ j h. absurd (omega arith) }
 
 module _ (t : List ℕ) (c : Counts) {depth i : ℕ} (p : Passed t c depth i) where
-  pub walk_ends : c.objects ≤ i → least c.objects (wrong_object t c) ≡ c.objects
-  walk_ends end = least_none c.objects (wrong_object t c) (λ j h. p.right j (omega arith))
+  -- none of the objects is wrong
+  pub none_named : c.objects ≤ i → least c.objects (wrong_object t c) ≡ c.objects
+  none_named end = least_none c.objects (wrong_object t c) (λ j h. p.right j (omega arith))
+
+  pub walk_ends : c.objects ≤ i → i ≡ least c.objects (wrong_object t c)
+  walk_ends end = omega (arith, p.within, end, none_named end)
 
   module _ (h : i < c.objects) {right : Bool}
       (test : right ≡ object_right (object_record_at (object_base c.ipdus + 32 * i) t) (references t c (object_record_at (object_base c.ipdus + 32 * i) t))) where
@@ -64,6 +69,7 @@ module _ (t : List ℕ) (c : Counts) {depth i : ℕ} (p : Passed t c depth i) wh
         pub walk_goes_on : depth + d ≤ most_queued → Passed t c (depth + d) (i + 1)
         walk_goes_on low =
             record {
+              within = omega arith;
               sum = sum ∙ ap (depths t c) (sym (add-one i));
               low = low;
               right = below_more (λ (j : ℕ). wrong_object t c j ≡ false) i p.right (rw (alone, left) (le-ltb _ _ (rw sum at low)));

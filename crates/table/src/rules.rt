@@ -45,7 +45,6 @@ fn offsets_right(t: &[u8], c: Counts) -> bool
 }
 
 // Whether an I-PDU record is right.
-#[tactic(auto, unfolding(crate::specs::Rules::ipdu_right))]
 pub fn ipdu_right(t: &[u8], a: usize) -> bool
     requires { a + 16 ≤ length t.now }
     ensures { result ≡ ipdu_right (ipdu_record_at a t.now) }
@@ -180,7 +179,6 @@ fn within_ipdu(t: &[u8], c: Counts, a: usize, number: IpduNumber) -> bool
 }
 
 // The bits of an object in an I-PDU of this length.
-#[tactic(auto, unfolding(crate::specs::Inner::place_field))]
 fn place_right(t: &[u8], a: usize, bytes: ByteLength) -> bool
     requires { (a + 32 ≤ length t.now) × (bytes.0 ≤ 8) }
     ensures { result ≡ place_field (object_record_at a t.now) bytes.0 }
@@ -260,7 +258,6 @@ fn without_ipdu(t: &[u8], c: Counts, a: usize) -> bool
 }
 
 // A sender is none, or one of the table's send objects.
-#[tactic(auto, unfolding(crate::specs::Records::object_record))]
 fn sender_right(t: &[u8], c: Counts, sender: u32) -> bool
     requires { Shape t.now c }
     ensures { result ≡ (eqb sender absent || eqb (pick (ltb sender c.objects) (object_record t.now c.ipdus sender).kind 0) sending) }

@@ -1,7 +1,7 @@
 -- `table::search::first_wrong_object`: the objects passed are right, and the depth is their sum (`Passed`).
 -- Assumes nothing.
 use Rattle.std.proofs.Common.{rules, refl}
-use Rattle.table.proofs.Walk.{walk_starts, walk_goes_on, walk_stays, walk_ends, ends_alone, depth_fits, ends_past_depth}
+use Rattle.table.proofs.Walk.{walk_starts, walk_goes_on, walk_stays, none_named, ends_alone, depth_fits, ends_past_depth}
 use Rattle.table.proofs.search.first_wrong_object.Goals as goal
 use Rattle.table.proofs.search.first_wrong_object.Goals.{then-d-ne0+else-depth-gt-MOST_QUEUED, else-d-ne0}
 
@@ -19,7 +19,7 @@ returns-then-depth-gt-MOST_QUEUED c =
     ends_past_depth _ _ c.loop-i.invariant (search rules) c.object_right.ensures c.read8-d.ensures.0 refl c.if-depth-gt-MOST_QUEUED.true
 
 pub returns : goal.returns
-returns c = search (rules, walk_ends)
+returns c = search (rules, none_named)
 
 pub loop-i-preserved : goal.loop-i-preserved
 loop-i-preserved c =
