@@ -1,15 +1,16 @@
 -- The end of a line: its call is made and printed, or it can't be read. What the functions that end a line cite. Assumes nothing.
-use Rattle.std.proofs.Common.{[], ◌∷◌, refl, ap₂, ◌-◌, ◌/◌, ◌%◌, ◌^◌, ◌<◌, zero, suc, w64, min, ⊎_elim, lt-ltb, le-ltb}
-use Rattle.std.proofs.Common.{true, false, List, ◌++◌, ◌≡◌, sym, ◌∙◌, ℕ, ◌+◌, ◌≤◌, arith, length, take, drop, Option, Some, None}
-use Rattle.std.specs.Int.{to_be_bytes}
-use Rattle.std.proofs.lemmas.List.{drop-append-le, drop_all, take_all}
+use Rattle.std.proofs.Common.{◌-◌, ◌^◌, ◌<◌, min, ⊎_elim, lt-ltb, le-ltb}
+use Rattle.std.proofs.Common.{true, false, List, ◌≡◌, sym, ◌∙◌, ℕ, ◌+◌, ◌≤◌, arith, length, take, drop, Option, Some, None}
+use lib.Seq.{sets}
+use Rattle.std.proofs.lemmas.List.{take_all}
 use Rattle.memory.specs.Texts.{Put}
 use Rattle.memory.proofs.Tests.{lt_or_le}
+use Rattle.memory.proofs.Parts.{sets_replaced, replaced_whole}
 use Rattle.script.specs.declared.Command.{Command}
 use Rattle.script.specs.declared.Frame.{Frame}
 use Rattle.script.specs.declared.Reader.{Reader}
 use Rattle.script.specs.Reader.{fresh, command_of, frame_of, bytes_down, frame_bytes}
-use Rattle.script.proofs.BytesDown.{down_length}
+use Rattle.script.proofs.BytesDown.{down_length, low_bytes}
 use Rattle.report.specs.Printing.{refusal_line, longest_line}
 use Rattle.report.proofs.StatusLines.{refusal_length}
 use Rattle.script.specs.declared.Progress.{Progress}
@@ -21,30 +22,11 @@ use Rattle.table.specs.declared.Counts.{Counts}
 
 -- ---- the bytes of an indication are the last of nine
 
--- the last bytes are those of the low part
-low_bytes : (j k x : ℕ) → drop j (bytes_down (k + j) x) ≡ bytes_down k x
-unfolding bytes_down
-low_bytes j zero x = let none : length (bytes_down j x) ≤ j = omega (arith, down_length j x) in
-    let all : 0 + j ≡ j = omega arith in
-    rw all (drop_all j (bytes_down j x) none)
-low_bytes j (suc k) x =
-    let inside : j ≤ length (bytes_down (k + j) (x / 256)) = omega (arith, down_length (k + j) (x / 256)) in
-    let more : suc k + j ≡ suc (k + j) = omega arith in
-    rw (more, drop-append-le j (bytes_down (k + j) (x / 256)) (x % 256 ∷ []) inside, low_bytes j k (x / 256))
-
--- the bytes of a number, the highest first, behind one more
-pub spelt_bytes : (x : ℕ) → x < 2 ^ 64 → 0 ∷ (to_be_bytes w64 x ++ []) ≡ bytes_down 9 x
-unfolding bytes_down
-spelt_bytes x low =
-    let top : 0 ≡ x / 256 / 256 / 256 / 256 / 256 / 256 / 256 / 256 % 256 = omega (arith, low) in
-    let byte_7 : x / 256 ^ 7 % 256 ≡ x / 256 / 256 / 256 / 256 / 256 / 256 / 256 % 256 = omega arith in
-    let byte_6 : x / 256 ^ 6 % 256 ≡ x / 256 / 256 / 256 / 256 / 256 / 256 % 256 = omega arith in
-    let byte_5 : x / 256 ^ 5 % 256 ≡ x / 256 / 256 / 256 / 256 / 256 % 256 = omega arith in
-    let byte_4 : x / 256 ^ 4 % 256 ≡ x / 256 / 256 / 256 / 256 % 256 = omega arith in
-    let byte_3 : x / 256 ^ 3 % 256 ≡ x / 256 / 256 / 256 % 256 = omega arith in
-    let byte_2 : x / 256 ^ 2 % 256 ≡ x / 256 / 256 % 256 = omega arith in
-    let byte_1 : x / 256 ^ 1 % 256 ≡ x / 256 % 256 = omega arith in
-    ap₂ ◌∷◌ top (ap₂ ◌∷◌ byte_7 (ap₂ ◌∷◌ byte_6 (ap₂ ◌∷◌ byte_5 (ap₂ ◌∷◌ byte_4 (ap₂ ◌∷◌ byte_3 (ap₂ ◌∷◌ byte_2 (ap₂ ◌∷◌ byte_1 (refl))))))))
+-- nine bytes that were all put
+pub spelt_whole : (x : ℕ) (m : List ℕ) → length m ≡ 9 → sets m 0 (bytes_down 9 x) ≡ bytes_down 9 x
+spelt_whole x m nine =
+    let long : length (bytes_down 9 x) ≡ length m = down_length 9 x ∙ sym nine in
+    sets_replaced 0 (bytes_down 9 x) m (omega (arith, long)) ∙ replaced_whole (bytes_down 9 x) m long
 
 pub frame_last : (frame : Frame) → frame.length ≤ 9 → take (9 - (9 - frame.length)) (drop (9 - frame.length) (bytes_down 9 frame.value)) ≡ frame_bytes frame
 unfolding frame_bytes

@@ -33,6 +33,13 @@ run_as p known written = record { progress = p; checked = known; written = writt
 abbrev pub run_with_reader : Run → Reader → Run
 run_with_reader r reader = run_as (progress_as reader r.progress.line r.progress.ended) r.checked r.written
 
+-- the place of the first line feed from place `from` on, or the end of the part
+pub record LineEnd (part : List ℕ) (from at : ℕ) : Type 0 where
+  pub low : from ≤ at
+  pub high : at ≤ length part
+  pub none : (j : ℕ) → from ≤ j → j < at → get_or part j 0 ≡ line_feed → ⊥
+  pub stops : (at ≡ length part) ⊎ (get_or part at 0 ≡ line_feed)
+
 -- the bytes of a line from place `from` on, up to a line feed or the end of the part: all that they change is the reader
 pub record Scanned (part : List ℕ) (from : ℕ) (reader : Reader) (r : Reached) : Type 0 where
   pub low : from ≤ r.at

@@ -4,7 +4,7 @@
 mod lines;
 mod names;
 
-pub use lines::{command_of, feed, frame_of, fresh};
+pub use lines::{command_of, feed, frame_of, fresh, spell};
 use table::{IpduNumber, ObjectNumber};
 
 // What a line asks for. The bytes of an indication stand beside it.

@@ -1,10 +1,11 @@
 // A line, byte by byte: the field that each byte joins, and the command when the line has ended.
-ghost use Rattle.std.specs.Prelude.{◌≡◌, ◌<◌, ◌≤◌, Option, Some, None};
+ghost use Rattle.std.specs.Prelude.{◌≡◌, ◌<◌, ◌≤◌, length, Option, Some, None};
+ghost use Rattle.std.proofs.lemmas.List.Edits.{sets};
 ghost use Rattle.memory.specs.Search.{pick};
 ghost use Rattle.script.specs.Reading.{with_digit, with_minus, numeral_with, hex_value, is_hex_digit};
 ghost use Rattle.script.specs.declared.Reader.TheVariants.{First, Second, Bytes};
 ghost use Rattle.script.specs.Reader.{shifted, with_letter, one_more, hex_with, whole_bytes, next_field, joined, next, fresh, command_of, no_name};
-ghost use Rattle.script.specs.Reader.{frame_of_hex, frame_of};
+ghost use Rattle.script.specs.Reader.{frame_of_hex, frame_of, bytes_down};
 
 use super::{Command, Frame, Hex, Name, Numeral, Reader, names};
 
@@ -228,4 +229,14 @@ fn frame_of_hex(h: Hex) -> Frame
         },
         Hex::NotHex => NO_FRAME,
     }
+}
+
+// Puts the low k bytes of x, the most significant first, at the start of `bytes`.
+pub fn spell(bytes: &mut [u8], k: usize, x: u64)
+    requires { k ≤ length bytes.old }
+    ensures { bytes.new ≡ sets bytes.old 0 (bytes_down k x) }
+{
+    let n = k.min(8);
+    bytes[..k - n].fill(0);
+    bytes[k - n..k].copy_from_slice(&x.to_be_bytes()[8 - n..]);
 }

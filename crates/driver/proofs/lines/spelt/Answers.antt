@@ -1,7 +1,8 @@
--- `driver::lines::spelt`: a zero, then the bytes of the number.
+-- `driver::lines::spelt`: the nine bytes are all put (`spelt_whole`).
 -- Assumes nothing.
-use Rattle.driver.proofs.LineLaws.{spelt_bytes}
+use Rattle.std.proofs.Common.{replicate, refl}
+use Rattle.driver.proofs.LineLaws.{spelt_whole}
 use Rattle.driver.proofs.lines.spelt.Goals as goal
 
 pub returns : goal.returns
-returns c = rw (c.copy_from_slice.ensures.after, c.to_be_bytes.ensures) (spelt_bytes c.args.value c.ranges.value.fits)
+returns c = rw c.spell.ensures (spelt_whole c.args.value (replicate 9 0) refl)
