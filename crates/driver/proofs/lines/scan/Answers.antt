@@ -13,7 +13,7 @@ loop-at-preserved c =
     let at_loop = c.loop-at in
     let end = c.line_end-end.ensures in
     let more =
-    scan_more a.part.now a.from at_loop.at at_loop.auto.at (search (rules)) a.reader at_loop.line at_loop.invariant (end.none _ at_loop.auto.at c.loop-at-test.true) in
+    scan_more a.part.now a.from at_loop.at at_loop.auto.at (search rules) a.reader at_loop.line at_loop.invariant (end.none _ at_loop.auto.at c.loop-at-test.true) in
     λ t b going same. rw c.feed-line.ensures (more t b going same)
 
 pub returns : goal.returns
